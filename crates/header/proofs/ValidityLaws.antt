@@ -1,0 +1,72 @@
+-- What `validityOf` and `newHeader` answer, by the tests that the code makes.
+use Prim.Native.Nat.{ℕ, _≤_, _<_}
+use mathlib.Core.Path.{_≡_, subst, refl, sym, _∙_}
+use mathlib.Core.Bool.{Bool, true, false, _&&_}
+use mathlib.Core.List.{List}
+use native.Mathlib.Omega.{arith}
+use lib.Dec.{leb, ltb, eqb}
+use borrow.Author.Tests.{eq-eqb, ne-eqb, lt-ltb, le-ltb, le-leb, lt-leb}
+use Rattle.header.specs.declared.Blocks.{Blocks}
+use Rattle.header.specs.declared.Bytes.{Bytes}
+use Rattle.header.specs.declared.Header.{Header}
+use Rattle.header.specs.declared.NewHeader.{NewHeader}
+use Rattle.header.specs.declared.Validity.the-variants.{Valid, Invalid}
+use Rattle.header.specs.declared.Error.the-variants.{ZeroLength, PastEnd, Checksum, ZeroChecksum}
+use Rattle.header.specs.Checksum.{sumcheck}
+use Rattle.header.specs.Header.{bytesOf, covered, newHeader, validityOf}
+
+module _ (h : Header) (at room : ℕ) where
+  pub zero-length : h .length .0 ≡ 0 → Invalid (ZeroLength at) ≡ validityOf h at room
+  unfolding validityOf
+  zero-length z = rw (eq-eqb _ _ z)
+
+  module _ (z : h .length .0 ≡ 0 → ⊥) (b : Bytes) (eb : b ≡ bytesOf (h .length)) where
+    pub past-end : room < b .0 → Invalid (PastEnd at) ≡ validityOf h at room
+    unfolding validityOf
+    past-end p =
+        let q : room < bytesOf (h .length) .0 = subst (λ (x : Bytes). room < x .0) eb p in
+        rw (ne-eqb _ _ z, lt-ltb _ _ q)
+
+    module _ (p : b .0 ≤ room) (s : ℕ) (es : s ≡ sumcheck (covered h)) where
+      fits : bytesOf (h .length) .0 ≤ room
+      fits = subst (λ (x : Bytes). x .0 ≤ room) eb p
+
+      pub checksum-differs : (h .checksum ≡ s → ⊥) → Invalid (Checksum at) ≡ validityOf h at room
+      unfolding validityOf
+      checksum-differs d = rw (ne-eqb _ _ z, le-ltb _ _ fits, ← es, ne-eqb _ _ d)
+
+      pub checksum-zero : h .checksum ≡ s → s ≡ 0 → Invalid (ZeroChecksum at) ≡ validityOf h at room
+      unfolding validityOf
+      checksum-zero a n = rw (ne-eqb _ _ z, le-ltb _ _ fits, ← es, eq-eqb _ _ a, eq-eqb _ _ n)
+
+      pub no-rule-broken : h .checksum ≡ s → (s ≡ 0 → ⊥) → Valid ≡ validityOf h at room
+      unfolding validityOf
+      no-rule-broken a n = rw (ne-eqb _ _ z, le-ltb _ _ fits, ← es, eq-eqb _ _ a, ne-eqb _ _ n)
+
+-- a header made of its fields, where its checksum and the test of its length are right
+module _ (signature : ℕ) (blocks : Blocks) (name : List ℕ) (s : ℕ)
+    (es : s ≡ sumcheck (covered (record { signature = signature; checksum = 0; length = blocks; name = name }))) where
+  made : (b : Bool) → b ≡ (leb 1 (blocks .0) && leb (blocks .0) 65535)
+      → _≡_ {A = NewHeader} (record { header = record { signature = signature; checksum = s; length = blocks; name = name }; allowed = b })
+      (newHeader signature blocks name)
+  unfolding newHeader
+  made b eb = λ i. record { header = record { signature = signature; checksum = es i; length = blocks; name = name }; allowed = eb i }
+
+  pub new-zero : blocks .0 ≡ 0
+      → _≡_ {A = NewHeader} (record { header = record { signature = signature; checksum = s; length = blocks; name = name }; allowed = false })
+      (newHeader signature blocks name)
+  new-zero z = let l : blocks .0 < 1 = omega arith in made false (rw (lt-leb _ _ l))
+
+  module _ (z : blocks .0 ≡ 0 → ⊥) where
+    least : 1 ≤ blocks .0
+    least = omega arith
+
+    pub new-over : 65535 < blocks .0
+        → _≡_ {A = NewHeader} (record { header = record { signature = signature; checksum = s; length = blocks; name = name }; allowed = false })
+        (newHeader signature blocks name)
+    new-over l = made false (rw (le-leb _ _ least, lt-leb _ _ l))
+
+    pub new-allowed : blocks .0 ≤ 65535
+        → _≡_ {A = NewHeader} (record { header = record { signature = signature; checksum = s; length = blocks; name = name }; allowed = true })
+        (newHeader signature blocks name)
+    new-allowed l = made true (rw (le-leb _ _ least, le-leb _ _ l))

@@ -1,0 +1,75 @@
+-- The header of a partition: 16 bytes of signature, checksum, length and name.
+use Prim.Native.Nat.{ℕ, _+_, _-_, _*_, _/_, _%_}
+use mathlib.Core.Bool.{Bool, true, false, not, _&&_}
+use mathlib.Core.List.{List, [], _∷_}
+use lib.ListN.{length, getD}
+use lib.Dec.{leb, ltb, eqb}
+use Rattle.header.specs.declared.Blocks.{Blocks}
+use Rattle.header.specs.declared.Bytes.{Bytes}
+use Rattle.header.specs.declared.Header.{Header}
+use Rattle.header.specs.declared.NewHeader.{NewHeader}
+use Rattle.header.specs.declared.Validity.{Validity}
+use Rattle.header.specs.declared.Validity.the-variants.{Valid, Invalid}
+use Rattle.header.specs.declared.Error.the-variants.{ZeroLength, PastEnd, Checksum, ZeroChecksum}
+use Rattle.header.specs.Checksum.{sumcheck}
+
+-- 16 bytes to a block
+abbrev pub bytesOf : Blocks → Bytes
+bytesOf b = record { 0 = b .0 * 16 }
+
+-- the byte k places after an offset, 0 past the image's end
+abbrev pub byteAt : List ℕ → ℕ → ℕ → ℕ
+byteAt image at k = getD image (at + k) 0
+
+-- the twelve bytes of the name in the header at an offset
+unfoldable pub nameAt : List ℕ → ℕ → List ℕ
+nameAt image at =
+    byteAt image at 4 ∷ byteAt image at 5 ∷ byteAt image at 6 ∷ byteAt image at 7
+    ∷ byteAt image at 8 ∷ byteAt image at 9 ∷ byteAt image at 10 ∷ byteAt image at 11
+    ∷ byteAt image at 12 ∷ byteAt image at 13 ∷ byteAt image at 14 ∷ byteAt image at 15 ∷ []
+
+-- the header at an offset: signature 1 byte, checksum 1, length 2 with the high byte first, name 12
+unfoldable pub headerAt : List ℕ → ℕ → Header
+headerAt image at =
+    record {
+      signature = byteAt image at 0;
+      checksum = byteAt image at 1;
+      length = record { 0 = byteAt image at 2 * 256 + byteAt image at 3 };
+      name = nameAt image at;
+    }
+
+-- the 15 bytes that the checksum covers: signature, length and name
+abbrev pub covered : Header → List ℕ
+covered h = h .signature ∷ h .length .0 / 256 % 256 ∷ h .length .0 % 256 ∷ h .name
+
+-- the header of these fields, with the checksum that is right for them
+abbrev pub sealed : ℕ → Blocks → List ℕ → Header
+sealed signature blocks name =
+    record {
+      signature = signature;
+      checksum = sumcheck (covered (record { signature = signature; checksum = 0; length = blocks; name = name }));
+      length = blocks;
+      name = name;
+    }
+
+-- that header, and whether its length is one from 1 to 65,535
+unfoldable pub newHeader : ℕ → Blocks → List ℕ → NewHeader
+newHeader signature blocks name =
+    record { header = sealed signature blocks name; allowed = leb 1 (blocks .0) && leb (blocks .0) 65535 }
+
+abbrev pub pickValidity : Bool → Validity → Validity → Validity
+pickValidity true a b = a
+pickValidity false a b = b
+
+-- the first rule that a header breaks, where it stands at an offset with so many bytes of the image left
+unfoldable pub validityOf : Header → ℕ → ℕ → Validity
+validityOf h at room =
+    pickValidity (eqb (h .length .0) 0) (Invalid (ZeroLength at))
+    (pickValidity (ltb room (bytesOf (h .length) .0)) (Invalid (PastEnd at))
+    (pickValidity (not (eqb (h .checksum) (sumcheck (covered h)))) (Invalid (Checksum at))
+    (pickValidity (eqb (sumcheck (covered h)) 0) (Invalid (ZeroChecksum at))
+    Valid)))
+
+-- the first rule that the header at an offset of an image breaks
+unfoldable pub validityAt : List ℕ → ℕ → Validity
+validityAt image at = validityOf (headerAt image at) at (length image - at)

@@ -1,0 +1,4 @@
+pub mod Errors
+pub mod Checksum
+pub mod Header
+pub mod Rules

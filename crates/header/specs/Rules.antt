@@ -1,0 +1,35 @@
+-- The rules of a header, by the bytes of the image; nothing here computes an answer.
+use Prim.Native.Nat.{ℕ, _+_, _*_, _≤_, _<_}
+use mathlib.Core.Path.{_≡_}
+use mathlib.Core.Logic.{_≢_}
+use mathlib.Core.List.{List, _∷_}
+use lib.ListN.{length}
+use Rattle.header.specs.declared.Error.{Error}
+use Rattle.header.specs.declared.Error.the-variants.{ZeroLength, PastEnd, Checksum, ZeroChecksum}
+use Rattle.header.specs.Checksum.{sum, closedForm}
+use Rattle.header.specs.Header.{byteAt, nameAt}
+
+-- the blocks that a header counts, high byte first
+unfoldable pub blocksAt : List ℕ → ℕ → ℕ
+blocksAt image at = byteAt image at 2 * 256 + byteAt image at 3
+
+-- the closed form of the checksum of the 15 covered bytes
+unfoldable pub checksumAt : List ℕ → ℕ → ℕ
+checksumAt image at =
+    closedForm (sum (byteAt image at 0 ∷ byteAt image at 2 ∷ byteAt image at 3 ∷ nameAt image at))
+
+-- a header that keeps every rule (document 01: a sound partition begins here)
+pub record Sound (image : List ℕ) (at : ℕ) : Type 0 where
+  pub nonzero : blocksAt image at ≢ 0
+  pub inside : at + blocksAt image at * 16 ≤ length image
+  pub agrees : byteAt image at 1 ≡ checksumAt image at
+  pub marked : byteAt image at 1 ≢ 0
+
+-- the first rule that a header breaks: one case for each of 2, 3, 4, 5, the earlier ones kept
+pub data Breaks (image : List ℕ) (at : ℕ) : Error → Type 0 where
+  two : blocksAt image at ≡ 0 → Breaks image at (ZeroLength at)
+  three : blocksAt image at ≢ 0 → length image < at + blocksAt image at * 16 → Breaks image at (PastEnd at)
+  four : blocksAt image at ≢ 0 → at + blocksAt image at * 16 ≤ length image
+      → byteAt image at 1 ≢ checksumAt image at → Breaks image at (Checksum at)
+  five : blocksAt image at ≢ 0 → at + blocksAt image at * 16 ≤ length image
+      → byteAt image at 1 ≡ checksumAt image at → byteAt image at 1 ≡ 0 → Breaks image at (ZeroChecksum at)
