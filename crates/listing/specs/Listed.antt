@@ -1,0 +1,33 @@
+-- What writing a listing into a lent buffer answers and leaves.
+use Prim.Native.Nat.{ℕ}
+use mathlib.Core.Bool.{Bool, true, false}
+use mathlib.Core.List.{List}
+use lib.ListN.{length}
+use lib.Dec.{leb}
+use Rattle.lists.specs.Pasted.{pasted}
+use Rattle.header.specs.declared.Error.the-variants.{ShortBuffer}
+use Rattle.header.specs.Errors.{codeOf}
+use Rattle.listing.specs.declared.Listed.{Listed}
+use Rattle.listing.specs.declared.Listed.the-variants.{Written, Refused}
+use Rattle.listing.specs.declared.ListAnswer.{ListAnswer}
+
+abbrev pub pickListed : Bool → Listed → Listed → Listed
+pickListed true a b = a
+pickListed false a b = b
+
+-- the text's length where the buffer has room for it; else number 14
+unfoldable pub listedOf : List ℕ → ℕ → Listed
+listedOf text room = pickListed (leb (length text) room) (Written (length text)) (Refused ShortBuffer)
+
+abbrev pub pickText : Bool → List ℕ → List ℕ → List ℕ
+pickText true a b = a
+pickText false a b = b
+
+-- the buffer afterwards: the text at its start and the bytes after it kept; untouched where it is too short
+unfoldable pub listedIn : List ℕ → List ℕ → List ℕ
+listedIn text buffer = pickText (leb (length text) (length buffer)) (pasted buffer 0 text) buffer
+
+-- the caller's view: code 0 and the length, or the error's code and 0
+abbrev pub listAnswer : Listed → ListAnswer
+listAnswer (Written n) = record { code = 0; length = n }
+listAnswer (Refused e) = record { code = codeOf e; length = 0 }

@@ -1,0 +1,4 @@
+pub mod Tests
+pub mod ByteLaws
+pub mod PastedLaws
+pub mod Grown

@@ -1,0 +1,18 @@
+-- The numbers and values that a caller sees in each answer; with every code from 1 up the values are 0.
+use Rattle.header.specs.Errors.{codeOf, offsetOf}
+use Rattle.partitions.specs.declared.CheckAnswer.{CheckAnswer}
+use Rattle.partitions.specs.declared.Checked.{Checked}
+use Rattle.partitions.specs.declared.Checked.the-variants.{Accepted, Refused as Rejected}
+use Rattle.partitions.specs.declared.FindAnswer.{FindAnswer}
+use Rattle.partitions.specs.declared.Found.{Found}
+use Rattle.partitions.specs.declared.Found.the-variants.{At, Refused}
+
+abbrev pub checkAnswer : Checked → CheckAnswer
+checkAnswer (Accepted n) = record { code = 0; offset = 0; partitions = n }
+checkAnswer (Rejected e) = record { code = codeOf e; offset = offsetOf e; partitions = 0 }
+
+abbrev pub findAnswer : Found → FindAnswer
+findAnswer (At p) =
+    record { code = 0; offset = 0; header = p .offset; blocks = p .blocks .0; signature = p .signature }
+findAnswer (Refused e) =
+    record { code = codeOf e; offset = offsetOf e; header = 0; blocks = 0; signature = 0 }

@@ -1,0 +1,85 @@
+-- The same in relations on the image's bytes: no walk, no fuel, and nothing that computes an answer.
+use Prim.Native.Nat.{ℕ, _+_, _-_, _*_, _%_, _≤_, _<_}
+use mathlib.Core.Path.{_≡_}
+use mathlib.Core.Logic.{_≢_}
+use mathlib.Core.List.{List, [], _∷_, _++_}
+use lib.ListN.{length, take, drop, replicate}
+use Rattle.header.specs.declared.Error.{Error}
+use Rattle.header.specs.declared.Error.the-variants.{ImageLength, NoPartition}
+use Rattle.header.specs.Header.{byteAt, nameAt}
+use Rattle.header.specs.Rules.{blocksAt, Sound, Breaks}
+use Rattle.partitions.specs.declared.Partition.{Partition}
+
+-- an image's length is a multiple of 16, from 16 to 1,048,576 bytes
+pub record LengthRule (n : ℕ) : Type 0 where
+  pub multiple : n % 16 ≡ 0
+  pub least : 16 ≤ n
+  pub most : n ≤ 1_048_576
+
+-- the partition at an offset: its header's offset, blocks and signature
+unfoldable pub partitionAt : List ℕ → ℕ → Partition
+partitionAt image at =
+    record { offset = at; blocks = record { 0 = blocksAt image at }; signature = byteAt image at 0 }
+
+-- the offset just past it
+unfoldable pub pastAt : List ℕ → ℕ → ℕ
+pastAt image at = at + blocksAt image at * 16
+
+-- sound partitions follow each other from one offset to another
+pub data Cover (image : List ℕ) : ℕ → ℕ → List Partition → Type 0 where
+  here : {a : ℕ} → Cover image a a []
+  next : {a b : ℕ} {ps : List Partition} → Sound image a → Cover image (pastAt image a) b ps
+      → Cover image a b (partitionAt image a ∷ ps)
+
+-- an accepted image: partitions cover it from its first byte to its last (document 01: taken)
+pub record Accepted (image : List ℕ) (ps : List Partition) : Type 0 where
+  pub long : LengthRule (length image)
+  pub cover : Cover image 0 (length image) ps
+
+-- an image refused by 1 to 5: its length breaks the rule, or a cover reaches a header that breaks one
+pub data Rejected (image : List ℕ) : Error → Type 0 where
+  one : ¬ (LengthRule (length image)) → Rejected image ImageLength
+  header : {a : ℕ} {ps : List Partition} {e : Error} → LengthRule (length image) → Cover image 0 a ps → a < length image
+      → Breaks image a e → Rejected image e
+
+-- signature and name of the header at an offset: all twelve bytes, a shorter name filled with 0x00, a longer one never
+pub record Named (image : List ℕ) (signature : ℕ) (name : List ℕ) (at : ℕ) : Type 0 where
+  pub signed : byteAt image at 0 ≡ signature
+  pub short : length name ≤ 12
+  pub named : nameAt image at ≡ name ++ replicate (12 - length name) 0
+
+-- no partition of a list is so named
+abbrev pub NoneNamed : List ℕ → ℕ → List ℕ → List Partition → Type 0
+NoneNamed image signature name [] = Unit {0}
+NoneNamed image signature name (p ∷ ps) = ¬ (Named image signature name (p .offset)) × NoneNamed image signature name ps
+
+-- the first partition in image order of this signature and name
+pub record FirstNamed (image : List ℕ) (signature : ℕ) (name : List ℕ) (p : Partition) : Type 0 where
+  pub before : List Partition
+  pub after : List Partition
+  pub accepted : Accepted image (before ++ p ∷ after)
+  pub unnamed : NoneNamed image signature name before
+  pub named : Named image signature name (p .offset)
+
+-- the partition of an index
+pub record Indexed (image : List ℕ) (n : ℕ) (p : Partition) : Type 0 where
+  pub before : List Partition
+  pub after : List Partition
+  pub accepted : Accepted image (before ++ p ∷ after)
+  pub counted : length before ≡ n
+
+-- number 6: the image is accepted, and no partition is so named
+pub record NotNamed (image : List ℕ) (signature : ℕ) (name : List ℕ) : Type 0 where
+  pub all : List Partition
+  pub accepted : Accepted image all
+  pub unnamed : NoneNamed image signature name all
+
+-- number 6: the image is accepted, and has no more partitions than the index
+pub record NotIndexed (image : List ℕ) (n : ℕ) : Type 0 where
+  pub all : List Partition
+  pub accepted : Accepted image all
+  pub few : length all ≤ n
+
+-- the data area: the bytes from offset + 16 to offset + 16 x blocks
+unfoldable pub areaAt : List ℕ → ℕ → List ℕ
+areaAt image at = take (blocksAt image at * 16 - 16) (drop (at + 16) image)

@@ -1,0 +1,72 @@
+-- The image check, a partition by its index or by its signature and name, and its data area.
+use Prim.Native.Nat.{ℕ, zero, suc, _+_, _-_}
+use mathlib.Core.Bool.{Bool, true, false, _&&_}
+use mathlib.Core.List.{List, [], _∷_, _++_}
+use lib.ListN.{length, take, drop, replicate}
+use lib.Dec.{eqb}
+use Rattle.lists.specs.Bytes.{sameBytes}
+use Rattle.header.specs.declared.Error.the-variants.{NoPartition}
+use Rattle.header.specs.Header.{headerAt, bytesOf}
+use Rattle.partitions.specs.declared.Partition.{Partition}
+use Rattle.partitions.specs.declared.Checked.{Checked}
+use Rattle.partitions.specs.declared.Checked.the-variants.{Accepted, Refused as Rejected}
+use Rattle.partitions.specs.declared.Found.{Found}
+use Rattle.partitions.specs.declared.Found.the-variants.{At, Refused}
+use Rattle.partitions.specs.Walk.{Walk, covered, broken, walk}
+
+-- the image check counts the partitions of the walk
+unfoldable pub checkedBy : Walk → Checked
+checkedBy (covered ps) = Accepted (length ps)
+checkedBy (broken e) = Rejected e
+
+unfoldable pub checkOf : List ℕ → Checked
+checkOf image = checkedBy (walk image)
+
+-- the partition of an index from 0; number 6 where there is none
+unfoldable pub atIndex : ℕ → List Partition → Found
+atIndex n [] = Refused NoPartition
+atIndex zero (p ∷ ps) = At p
+atIndex (suc n) (p ∷ ps) = atIndex n ps
+
+unfoldable pub indexBy : ℕ → Walk → Found
+indexBy n (covered ps) = atIndex n ps
+indexBy n (broken e) = Refused e
+
+unfoldable pub indexOf : List ℕ → ℕ → Found
+indexOf image n = indexBy n (walk image)
+
+-- a name filled with 0x00 to n bytes; a longer one stays as it is
+unfoldable pub padded : ℕ → List ℕ → List ℕ
+padded n name = name ++ replicate (n - length name) 0
+
+-- whether the header at an offset has this signature and this name
+unfoldable pub matches : List ℕ → ℕ → List ℕ → ℕ → Bool
+matches image signature name at =
+    eqb (headerAt image at .signature) signature && sameBytes (headerAt image at .name) (padded 12 name)
+
+abbrev pub pickFound : Bool → Found → Found → Found
+pickFound true a b = a
+pickFound false a b = b
+
+-- what was found before, or else the partition where it is wanted
+abbrev pub keepFirst : Found → Bool → Partition → Found
+keepFirst (At q) wanted p = At q
+keepFirst (Refused e) wanted p = pickFound wanted (At p) (Refused e)
+
+-- the first in image order that matches; number 6 where none does
+unfoldable pub firstMatch : List ℕ → ℕ → List ℕ → List Partition → Found
+firstMatch image signature name [] = Refused NoPartition
+firstMatch image signature name (p ∷ ps) =
+    pickFound (matches image signature name (p .offset)) (At p) (firstMatch image signature name ps)
+
+unfoldable pub findBy : List ℕ → ℕ → List ℕ → Walk → Found
+findBy image signature name (covered ps) = firstMatch image signature name ps
+findBy image signature name (broken e) = Refused e
+
+unfoldable pub findOf : List ℕ → ℕ → List ℕ → Found
+findOf image signature name = findBy image signature name (walk image)
+
+-- the data area of the partition that was found: what follows its header; nothing where it was refused
+unfoldable pub areaOf : List ℕ → Found → List ℕ
+areaOf image (At p) = take (bytesOf (p .blocks) .0 - 16) (drop (p .offset + 16) image)
+areaOf image (Refused e) = []

@@ -1,0 +1,5 @@
+pub mod Walk
+pub mod Find
+pub mod Answers
+pub mod Cover
+pub mod Examples

@@ -1,0 +1,311 @@
+// The partitions of an image: a walk by steps, the image check, a partition by index, by name, and its data area.
+ghost use mathlib.Core.Path.{_≡_};
+ghost use lib.ListN.{length};
+ghost use Rattle.lists.specs.Bytes.{sameBytes};
+ghost use Rattle.partitions.specs.Walk.{allowedLength, stepAt};
+ghost use Rattle.partitions.specs.Find.{padded, matches, keepFirst, checkOf, indexOf, findOf, areaOf};
+ghost use Rattle.partitions.specs.Answers.{checkAnswer, findAnswer};
+use header::Blocks;
+use header::Error;
+use header::Header;
+use header::Validity;
+
+// The greatest length of an image in bytes: 65,536 blocks.
+const MAX_IMAGE: usize = 1048576;
+
+// A partition, by the offset of its header; its name is read from the image.
+pub struct Partition {
+    pub offset: usize,
+    pub blocks: Blocks,
+    pub signature: u8,
+}
+
+// Where a walk stands.
+pub struct Cursor {
+    pub at: usize,
+}
+
+// What a step of a walk finds.
+pub enum Step {
+    // A partition, and where the walk goes on.
+    Next(Partition, Cursor),
+    // The image's end.
+    End,
+    // A header that breaks a rule.
+    Broken(Error),
+}
+
+impl Cursor {
+    // A walk begins at the image's first byte.
+    pub fn start() -> Self
+        ensures { λ r. ⌜ r ≡ record { at = 0 } ⌝ }
+    {
+        Cursor { at: 0 }
+    }
+
+    // The partition here with the next cursor, the end, or the rule that the header here breaks.
+    pub fn step(self, image: &[u8]) -> Step
+        ensures { λ r. ⌜ r ≡ stepAt (now (image .entry)) (self .at) ⌝ }
+    {
+        let at = self.at;
+        let n = image.len();
+        if n <= at {
+            return Step::End;
+        }
+        let h = Header::read(image, at);
+        let validity = h.check(at, n - at);
+        match validity {
+            Validity::Valid => {
+                let blocks = h.length;
+                let bytes = blocks.bytes();
+                Step::Next(
+                    Partition {
+                        offset: at,
+                        blocks,
+                        signature: h.signature,
+                    },
+                    Cursor { at: at + bytes.0 },
+                )
+            }
+            Validity::Invalid(e) => Step::Broken(e),
+        }
+    }
+}
+
+// What the image check answers.
+pub enum Checked {
+    // The image is accepted; the number of partitions that cover it.
+    Accepted { partitions: usize },
+    Refused(Error),
+}
+
+// The caller's view of `Checked`: code 0 and the number of partitions, or the error's code and offset.
+pub struct CheckAnswer {
+    pub code: u32,
+    pub offset: usize,
+    pub partitions: usize,
+}
+
+impl Checked {
+    pub fn answer(self) -> CheckAnswer
+        ensures { λ r. ⌜ r ≡ checkAnswer self ⌝ }
+    {
+        match self {
+            Checked::Accepted { partitions } => CheckAnswer {
+                code: 0,
+                offset: 0,
+                partitions,
+            },
+            Checked::Refused(e) => CheckAnswer {
+                code: e.code(),
+                offset: e.offset(),
+                partitions: 0,
+            },
+        }
+    }
+}
+
+// What finding a partition answers.
+pub enum Found {
+    At(Partition),
+    Refused(Error),
+}
+
+// The caller's view of `Found`: code 0 and the partition's header, or the error's code and offset.
+pub struct FindAnswer {
+    pub code: u32,
+    pub offset: usize,
+    pub header: usize,
+    pub blocks: u32,
+    pub signature: u8,
+}
+
+impl Found {
+    pub fn answer(self) -> FindAnswer
+        ensures { λ r. ⌜ r ≡ findAnswer self ⌝ }
+    {
+        match self {
+            Found::At(p) => FindAnswer {
+                code: 0,
+                offset: 0,
+                header: p.offset,
+                blocks: p.blocks.0,
+                signature: p.signature,
+            },
+            Found::Refused(e) => FindAnswer {
+                code: e.code(),
+                offset: e.offset(),
+                header: 0,
+                blocks: 0,
+                signature: 0,
+            },
+        }
+    }
+}
+
+// Whether an image may have this length.
+fn allowed_length(n: usize) -> bool
+    ensures { λ r. ⌜ r ≡ allowedLength n ⌝ }
+{
+    if n % Header::BLOCK != 0 {
+        return false;
+    }
+    if n < Header::BLOCK {
+        return false;
+    }
+    if MAX_IMAGE < n {
+        return false;
+    }
+    true
+}
+
+// The image check: the partitions that cover the image are counted.
+pub fn check(image: &[u8]) -> Checked
+    ensures { λ r. ⌜ r ≡ checkOf (now (image .entry)) ⌝ }
+{
+    if !allowed_length(image.len()) {
+        return Checked::Refused(Error::ImageLength);
+    }
+    let mut cursor = Cursor::start();
+    let mut count: usize = 0;
+    loop {
+        let step = cursor.step(image);
+        match step {
+            Step::Next(_, next) => {
+                cursor = next;
+                count += 1;
+            }
+            Step::End => break Checked::Accepted { partitions: count },
+            Step::Broken(e) => break Checked::Refused(e),
+        }
+    }
+}
+
+// What was found before, or else the partition where it is wanted.
+fn first_of(best: Found, wanted: bool, p: Partition) -> Found
+    ensures { λ r. ⌜ r ≡ keepFirst best wanted p ⌝ }
+{
+    match best {
+        Found::At(q) => Found::At(q),
+        Found::Refused(e) => { if wanted { Found::At(p) } else { Found::Refused(e) } }
+    }
+}
+
+// The partition of an index from 0, in image order.
+pub fn by_index(image: &[u8], index: usize) -> Found
+    ensures { λ r. ⌜ r ≡ indexOf (now (image .entry)) index ⌝ }
+{
+    if !allowed_length(image.len()) {
+        return Found::Refused(Error::ImageLength);
+    }
+    let mut cursor = Cursor::start();
+    let mut left = index;
+    let mut best = Found::Refused(Error::NoPartition);
+    loop {
+        let step = cursor.step(image);
+        match step {
+            Step::Next(p, next) => {
+                if left == 0 {
+                    best = first_of(best, true, p);
+                } else {
+                    left -= 1;
+                }
+                cursor = next;
+            }
+            Step::End => break best,
+            Step::Broken(e) => break Found::Refused(e),
+        }
+    }
+}
+
+// The byte at an index, 0 past the name's end.
+fn padded_byte(name: &[u8], i: usize) -> u8
+    ensures { λ r. ⌜ r ≡ getD (now (name .entry)) i 0 ⌝ }
+{
+    if i < name.len() { name[i] } else { 0 }
+}
+
+// Whether stored bytes are a name that is filled with 0x00.
+fn same_padded(stored: &[u8], name: &[u8]) -> bool
+    ensures { λ r. ⌜ r ≡ sameBytes (now (stored .entry)) (padded (length (now (stored .entry))) (now (name .entry))) ⌝ }
+{
+    let n = stored.len();
+    if n < name.len() {
+        return false;
+    }
+    let mut i = 0;
+    while i < n {
+        if stored[i] != padded_byte(name, i) {
+            return false;
+        }
+        i += 1;
+    }
+    true
+}
+
+// The same of a header's name.
+fn same_name(stored: &[u8; 12], name: &[u8]) -> bool
+    ensures { λ r. ⌜ r ≡ sameBytes (now (stored .entry)) (padded (length (now (stored .entry))) (now (name .entry))) ⌝ }
+{
+    same_padded(stored, name)
+}
+
+// Whether the partition at an offset has this signature and this name.
+fn is_named(image: &[u8], at: usize, signature: u8, name: &[u8]) -> bool
+    ensures { λ r. ⌜ r ≡ matches (now (image .entry)) signature (now (name .entry)) at ⌝ }
+{
+    let h = Header::read(image, at);
+    if h.signature == signature {
+        let stored = h.name;
+        same_name(&stored, name)
+    } else {
+        false
+    }
+}
+
+// The first partition in image order that has this signature and this name.
+pub fn find(image: &[u8], signature: u8, name: &[u8]) -> Found
+    ensures { λ r. ⌜ r ≡ findOf (now (image .entry)) signature (now (name .entry)) ⌝ }
+{
+    if !allowed_length(image.len()) {
+        return Found::Refused(Error::ImageLength);
+    }
+    let mut cursor = Cursor::start();
+    let mut best = Found::Refused(Error::NoPartition);
+    loop {
+        let step = cursor.step(image);
+        match step {
+            Step::Next(p, next) => {
+                let wanted = is_named(image, p.offset, signature, name);
+                best = first_of(best, wanted, p);
+                cursor = next;
+            }
+            Step::End => break best,
+            Step::Broken(e) => break Found::Refused(e),
+        }
+    }
+}
+
+// The data area of that partition as a part of the image, empty where it is refused; the code and the offset are stored.
+pub fn area<'a>(image: &'a [u8], signature: u8, name: &[u8], code: &mut u32, offset: &mut usize) -> &'a [u8]
+    ensures part { λ r. ⌜ now r ≡ areaOf (now (image .entry)) (findOf (now (image .entry)) signature (now (name .entry))) ⌝ }
+    ensures stored { λ r. ⌜ now (code .exit) ≡ findAnswer (findOf (now (image .entry)) signature (now (name .entry))) .code ⌝ }
+    ensures place { λ r. ⌜ now (offset .exit) ≡ findAnswer (findOf (now (image .entry)) signature (now (name .entry))) .offset ⌝ }
+{
+    let found = find(image, signature, name);
+    match found {
+        Found::At(p) => {
+            *code = 0;
+            *offset = 0;
+            let bytes = p.blocks.bytes();
+            let start = p.offset + Header::SIZE;
+            let end = p.offset + bytes.0;
+            &image[start..end]
+        }
+        Found::Refused(e) => {
+            *code = e.code();
+            *offset = e.offset();
+            &image[..0]
+        }
+    }
+}
