@@ -1,2 +1,4 @@
 pub mod SumLaws
+pub mod ChecksumLaws
 pub mod ValidityLaws
+pub mod RuleLaws

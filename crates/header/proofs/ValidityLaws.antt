@@ -1,19 +1,22 @@
 -- What `validityOf` and `newHeader` answer, by the tests that the code makes.
 use Prim.Native.Nat.{ℕ, _≤_, _<_}
 use mathlib.Core.Path.{_≡_, subst, refl, sym, _∙_}
-use mathlib.Core.Bool.{Bool, true, false, _&&_}
+use mathlib.Core.Bool.{Bool, true, false, not, _&&_}
+use mathlib.Core.Logic.{_≢_}
 use mathlib.Core.List.{List}
 use native.Mathlib.Omega.{arith}
 use lib.Dec.{leb, ltb, eqb}
-use borrow.Author.Tests.{eq-eqb, ne-eqb, lt-ltb, le-ltb, le-leb, lt-leb}
+use borrow.Author.Tests.{eq-eqb, ne-eqb, lt-ltb, le-ltb, le-leb, lt-leb, eqb-true, eqb-false, ltb-false}
+use Rattle.lists.proofs.Tests.{clash}
 use Rattle.header.specs.declared.Blocks.{Blocks}
 use Rattle.header.specs.declared.Bytes.{Bytes}
 use Rattle.header.specs.declared.Header.{Header}
 use Rattle.header.specs.declared.NewHeader.{NewHeader}
 use Rattle.header.specs.declared.Validity.the-variants.{Valid, Invalid}
+use Rattle.header.specs.declared.Error.{Error}
 use Rattle.header.specs.declared.Error.the-variants.{ZeroLength, PastEnd, Checksum, ZeroChecksum}
 use Rattle.header.specs.Checksum.{sumcheck}
-use Rattle.header.specs.Header.{bytesOf, covered, newHeader, validityOf}
+use Rattle.header.specs.Header.{bytesOf, covered, newHeader, pickValidity, validityOf}
 
 module _ (h : Header) (at room : ℕ) where
   pub zero-length : h .length .0 ≡ 0 → Invalid (ZeroLength at) ≡ validityOf h at room
@@ -70,3 +73,31 @@ module _ (signature : ℕ) (blocks : Blocks) (name : List ℕ) (s : ℕ)
         → _≡_ {A = NewHeader} (record { header = record { signature = signature; checksum = s; length = blocks; name = name }; allowed = true })
         (newHeader signature blocks name)
     new-allowed l = made true (rw (le-leb _ _ least, le-leb _ _ l))
+
+-- the tests of a header that breaks no rule
+valid-tests : (a b c d : Bool) (w x y z : Error)
+    → pickValidity a (Invalid w) (pickValidity b (Invalid x) (pickValidity (not c) (Invalid y) (pickValidity d (Invalid z) Valid))) ≡ Valid
+    → (a ≡ false) × (b ≡ false) × (c ≡ true) × (d ≡ false)
+valid-tests true b c d w x y z e = clash (cc)
+valid-tests false true c d w x y z e = clash (cc)
+valid-tests false false false d w x y z e = clash (cc)
+valid-tests false false true true w x y z e = clash (cc)
+valid-tests false false true false w x y z e = (refl, refl, refl, refl)
+
+module _ (h : Header) (at room : ℕ) (e : validityOf h at room ≡ Valid) where
+  tests : (eqb (h .length .0) 0 ≡ false) × (ltb room (bytesOf (h .length) .0) ≡ false)
+      × (eqb (h .checksum) (sumcheck (covered h)) ≡ true) × (eqb (sumcheck (covered h)) 0 ≡ false)
+  unfolding validityOf
+  tests = valid-tests _ _ _ _ (ZeroLength at) (PastEnd at) (Checksum at) (ZeroChecksum at) e
+
+  pub valid-nonzero : h .length .0 ≢ 0
+  valid-nonzero = eqb-false _ _ (tests .0)
+
+  pub valid-fits : bytesOf (h .length) .0 ≤ room
+  valid-fits = ltb-false _ _ (tests .1)
+
+  pub valid-agrees : h .checksum ≡ sumcheck (covered h)
+  valid-agrees = eqb-true _ _ (tests .2)
+
+  pub valid-marked : sumcheck (covered h) ≢ 0
+  valid-marked = eqb-false _ _ (tests .3)

@@ -1,6 +1,6 @@
 // The partitions of an image: a walk by steps, the image check, a partition by index, by name, and its data area.
 ghost use mathlib.Core.Path.{_≡_};
-ghost use lib.ListN.{length};
+ghost use lib.ListN.{length, getD};
 ghost use Rattle.lists.specs.Bytes.{sameBytes};
 ghost use Rattle.partitions.specs.Walk.{allowedLength, stepAt};
 ghost use Rattle.partitions.specs.Find.{padded, matches, keepFirst, checkOf, indexOf, findOf, areaOf};
@@ -187,7 +187,13 @@ fn first_of(best: Found, wanted: bool, p: Partition) -> Found
 {
     match best {
         Found::At(q) => Found::At(q),
-        Found::Refused(e) => { if wanted { Found::At(p) } else { Found::Refused(e) } }
+        Found::Refused(e) => {
+            if wanted {
+                Found::At(p)
+            } else {
+                Found::Refused(e)
+            }
+        }
     }
 }
 
@@ -287,7 +293,13 @@ pub fn find(image: &[u8], signature: u8, name: &[u8]) -> Found
 }
 
 // The data area of that partition as a part of the image, empty where it is refused; the code and the offset are stored.
-pub fn area<'a>(image: &'a [u8], signature: u8, name: &[u8], code: &mut u32, offset: &mut usize) -> &'a [u8]
+pub fn area<'a>(
+    image: &'a [u8],
+    signature: u8,
+    name: &[u8],
+    code: &mut u32,
+    offset: &mut usize,
+) -> &'a [u8]
     ensures part { λ r. ⌜ now r ≡ areaOf (now (image .entry)) (findOf (now (image .entry)) signature (now (name .entry))) ⌝ }
     ensures stored { λ r. ⌜ now (code .exit) ≡ findAnswer (findOf (now (image .entry)) signature (now (name .entry))) .code ⌝ }
     ensures place { λ r. ⌜ now (offset .exit) ≡ findAnswer (findOf (now (image .entry)) signature (now (name .entry))) .offset ⌝ }

@@ -1,0 +1,36 @@
+-- The closed form of the checksum, for all bytes.
+use Prim.Native.Nat.{ℕ, zero, suc, _+_, _-_, _%_, _≤_, _<_}
+use mathlib.Core.Path.{_≡_, ap, refl, sym, _∙_}
+use mathlib.Core.List.{List, [], _∷_}
+use native.Mathlib.Omega.{arith}
+use native.Mathlib.Decide.{decLe}
+use borrow.Author.Tests.{le-leb, lt-leb}
+use Rattle.lists.specs.Bytes.{AllBytes}
+use Rattle.header.specs.Checksum.{addCarry, sumFrom, sumcheck, sum, closedForm}
+
+-- one byte more, by whether a carry leaves the byte
+carry : (c b : ℕ) (d : Dec (256 ≤ c + b)) (n : ℕ) → (256 ≤ c + b → c + b - 255 ≡ n) → (c + b < 256 → c + b ≡ n) → addCarry c b ≡ n
+carry c b (yes h) n f g = rw (le-leb _ _ h) (f h)
+carry c b (no h) n f g = let l : c + b < 256 = omega arith in rw (lt-leb _ _ l) (g l)
+
+closed-add : (s b : ℕ) → b < 256 → addCarry (closedForm s) b ≡ closedForm (s + b)
+unfolding closedForm
+closed-add zero zero h = refl
+closed-add zero (suc k) h =
+    let e : 0 + suc k ≡ suc k = omega arith in
+    carry 0 (suc k) (decLe _ _) _ (λ g. absurd (omega arith)) (λ l. omega arith) ∙ ap closedForm (sym e)
+closed-add (suc m) b h =
+    let e : suc (m + b) ≡ suc m + b = omega arith in
+    carry (m % 255 + 1) b (decLe _ _) ((m + b) % 255 + 1) (λ g. omega arith) (λ l. omega arith) ∙ ap closedForm e
+
+sum-closed : (s : ℕ) (bs : List ℕ) → AllBytes bs → sumFrom (closedForm s) bs ≡ closedForm (s + sum bs)
+unfolding sumFrom sum
+sum-closed s [] a = let e : s ≡ s + 0 = omega arith in ap closedForm e
+sum-closed s (b ∷ bs) a =
+    let e : s + b + sum bs ≡ s + (b + sum bs) = omega arith in
+    ap (λ (c : ℕ). sumFrom c bs) (closed-add s b (a .0)) ∙ sum-closed (s + b) bs (a .1) ∙ ap closedForm e
+
+-- 0 where the sum is 0, else one more than the sum less 1 modulo 255
+pub closed-form : (bs : List ℕ) → AllBytes bs → sumcheck bs ≡ closedForm (sum bs)
+unfolding closedForm
+closed-form bs a = let e : 0 + sum bs ≡ sum bs = omega arith in sum-closed 0 bs a ∙ ap closedForm e

@@ -1,0 +1,123 @@
+-- The first broken rule that is computed, and the rules by the bytes of the image: each exactly when the other.
+use Prim.Native.Nat.{ℕ, _+_, _-_, _*_, _/_, _%_, _≤_, _<_}
+use mathlib.Core.Path.{_≡_, ap, refl, sym, _∙_}
+use mathlib.Core.Logic.{_≢_, _↔_}
+use mathlib.Core.List.{List, [], _∷_}
+use native.Mathlib.Omega.{arith}
+use lib.ListN.{length}
+use native.Mathlib.Decide.{decLe, ℕ-discrete}
+use Rattle.lists.specs.Bytes.{AllBytes}
+use Rattle.lists.proofs.Tests.{clash}
+use Rattle.lists.proofs.ByteLaws.{every-get}
+use Rattle.header.specs.declared.Error.{Error}
+use Rattle.header.specs.declared.Error.the-variants.{ZeroLength, PastEnd, Checksum, ZeroChecksum}
+use Rattle.header.specs.declared.Validity.{Validity}
+use Rattle.header.specs.declared.Validity.the-variants.{Valid, Invalid}
+use Rattle.header.specs.Checksum.{sum, sumcheck, closedForm}
+use Rattle.header.specs.Header.{byteAt, nameAt, headerAt, bytesOf, covered, validityOf, validityAt}
+use Rattle.header.specs.Rules.{blocksAt, checksumAt, Sound, Breaks, two, three, four, five}
+use Rattle.header.proofs.ChecksumLaws.{closed-form}
+use Rattle.header.proofs.ValidityLaws.{zero-length, past-end, checksum-differs, checksum-zero, no-rule-broken}
+
+module _ (image : List ℕ) (at : ℕ) where
+  pub blocks-read : headerAt image at .length .0 ≡ blocksAt image at
+  unfolding headerAt blocksAt
+  blocks-read = refl
+
+  pub checksum-read : headerAt image at .checksum ≡ byteAt image at 1
+  unfolding headerAt
+  checksum-read = refl
+
+  pub signature-read : headerAt image at .signature ≡ byteAt image at 0
+  unfolding headerAt
+  signature-read = refl
+
+  pub name-read : headerAt image at .name ≡ nameAt image at
+  unfolding headerAt
+  name-read = refl
+
+  module _ (bytes : AllBytes image) where
+    byte : (k : ℕ) → byteAt image at k < 256
+    byte k = every-get (λ b. b < 256) (omega arith) image (at + k) bytes
+
+    covered-read : covered (headerAt image at) ≡ byteAt image at 0 ∷ byteAt image at 2 ∷ byteAt image at 3 ∷ nameAt image at
+    unfolding headerAt
+    covered-read =
+        let b2 = byte 2 in
+        let b3 = byte 3 in
+        let high : (byteAt image at 2 * 256 + byteAt image at 3) / 256 % 256 ≡ byteAt image at 2 = omega arith in
+        let low : (byteAt image at 2 * 256 + byteAt image at 3) % 256 ≡ byteAt image at 3 = omega arith in
+        λ i. byteAt image at 0 ∷ high i ∷ low i ∷ nameAt image at
+
+    name-bytes : AllBytes (nameAt image at)
+    unfolding nameAt
+    name-bytes =
+        (byte 4, (byte 5, (byte 6, (byte 7, (byte 8, (byte 9, (byte 10, (byte 11, (byte 12, (byte 13, (byte 14, (byte 15, tt))))))))))))
+
+    pub sum-read : sumcheck (covered (headerAt image at)) ≡ checksumAt image at
+    unfolding checksumAt
+    sum-read = ap sumcheck covered-read ∙ closed-form _ (byte 0, (byte 2, (byte 3, name-bytes)))
+
+    module _ (z : blocksAt image at ≢ 0) where
+      nonzero : headerAt image at .length .0 ≢ 0
+      nonzero e = z (sym blocks-read ∙ e)
+
+      module _ (f : at + blocksAt image at * 16 ≤ length image) where
+        fits : bytesOf (headerAt image at .length) .0 ≤ length image - at
+        fits = let p : headerAt image at .length .0 * 16 ≤ length image - at = omega (arith, blocks-read) in p
+
+    pub breaks-invalid : {e : Error} → Breaks image at e → validityAt image at ≡ Invalid e
+    unfolding validityAt
+    breaks-invalid (two z) = sym (zero-length _ at _ (blocks-read ∙ z))
+    breaks-invalid (three z p) =
+        let q : length image - at < headerAt image at .length .0 * 16 = omega (arith, blocks-read) in
+        sym (past-end _ at _ (nonzero z) (bytesOf (headerAt image at .length)) refl q)
+    breaks-invalid (four z f a) =
+        sym (checksum-differs _ at _ (nonzero z) (bytesOf (headerAt image at .length)) refl (fits z f) _ (sym sum-read) (λ e. a (sym checksum-read ∙ e)))
+    breaks-invalid (five z f a m) =
+        sym (checksum-zero _ at _ (nonzero z) (bytesOf (headerAt image at .length)) refl (fits z f) _ (sym sum-read) (checksum-read ∙ a) (sym a ∙ m))
+
+    pub sound-valid : Sound image at → validityAt image at ≡ Valid
+    unfolding validityAt
+    sound-valid s =
+        sym (no-rule-broken _ at _ (nonzero (s .nonzero)) (bytesOf (headerAt image at .length)) refl (fits (s .nonzero) (s .inside)) _ (sym sum-read)
+        (checksum-read ∙ s .agrees) (λ e. s .marked (s .agrees ∙ e)))
+
+    -- what the rules say of the header at an offset
+    data Judged : Validity → Type 0 where
+      sound : Sound image at → Judged Valid
+      faulty : {e : Error} → Breaks image at e → Judged (Invalid e)
+
+    judged : Judged (validityAt image at)
+    judged =
+        go (ℕ-discrete (blocksAt image at) 0) (decLe (at + blocksAt image at * 16) (length image))
+        (ℕ-discrete (byteAt image at 1) (checksumAt image at)) (ℕ-discrete (byteAt image at 1) 0)
+      where
+        broken : {e : Error} → Breaks image at e → Judged (validityAt image at)
+        broken b = rw (breaks-invalid b) (faulty b)
+
+        go : Dec (blocksAt image at ≡ 0) → Dec (at + blocksAt image at * 16 ≤ length image) → Dec (byteAt image at 1 ≡ checksumAt image at)
+            → Dec (byteAt image at 1 ≡ 0) → Judged (validityAt image at)
+        go (yes z) f a m = broken (two z)
+        go (no z) (no f) a m = broken (three z (omega arith))
+        go (no z) (yes f) (no a) m = broken (four z f a)
+        go (no z) (yes f) (yes a) (yes m) = broken (five z f a m)
+        go (no z) (yes f) (yes a) (no m) =
+            let s : Sound image at = record { nonzero = z; inside = f; agrees = a; marked = m } in
+            rw (sound-valid s) (sound s)
+
+    -- no rule is broken exactly when all four hold
+    pub valid-exactly : (validityAt image at ≡ Valid) ↔ Sound image at
+    valid-exactly = (go (validityAt image at) judged, sound-valid)
+      where
+        go : (v : Validity) → Judged v → v ≡ Valid → Sound image at
+        go Valid (sound s) e = s
+        go (Invalid x) (faulty b) e = clash (cc)
+
+    -- and a rule is the first one broken exactly when it is, and the earlier ones hold
+    pub invalid-exactly : (e : Error) → (validityAt image at ≡ Invalid e) ↔ Breaks image at e
+    invalid-exactly e = (go (validityAt image at) judged, breaks-invalid)
+      where
+        go : (v : Validity) → Judged v → v ≡ Invalid e → Breaks image at e
+        go Valid (sound s) q = clash (cc)
+        go (Invalid x) (faulty b) q = let p : x ≡ e = cc in rw p at b
