@@ -36,6 +36,12 @@ pub record Accepted (image : List ℕ) (ps : List Partition) : Type 0 where
   pub long : LengthRule (length image)
   pub cover : Cover image 0 (length image) ps
 
+-- an accepted image of n partitions
+pub record Counted (image : List ℕ) (n : ℕ) : Type 0 where
+  pub all : List Partition
+  pub accepted : Accepted image all
+  pub counted : length all ≡ n
+
 -- an image refused by 1 to 5: its length breaks the rule, or a cover reaches a header that breaks one
 pub data Rejected (image : List ℕ) : Error → Type 0 where
   one : ¬ (LengthRule (length image)) → Rejected image ImageLength

@@ -1,0 +1,165 @@
+-- A partition that was found lies inside the image, and its data area is a part of it.
+use Prim.Native.Nat.{ℕ, suc, zero, _+_, _-_, _*_, _≤_, _<_}
+use mathlib.Core.Path.{_≡_, ap, subst, refl, sym, _∙_}
+use mathlib.Core.Logic.{_↔_, _⊎_, inl, inr}
+use mathlib.Core.Bool.{Bool, true, false}
+use mathlib.Core.List.{List, [], _∷_}
+use native.Mathlib.Omega.{arith}
+use native.Mathlib.Decide.{decLe}
+use lib.ListN.{length, take, drop, getD, length-drop}
+use lib.Seq.{getD-take, getD-drop, length-take-le}
+use Rattle.lists.proofs.Tests.{clash}
+use Rattle.header.specs.declared.Bytes.{Bytes}
+use Rattle.header.specs.declared.Error.{Error}
+use Rattle.header.specs.declared.Validity.the-variants.{Valid}
+use Rattle.header.specs.Errors.{codeOf, offsetOf}
+use Rattle.header.specs.Header.{headerAt, bytesOf, validityAt}
+use Rattle.header.proofs.ValidityLaws.{valid-nonzero, valid-fits}
+use Rattle.partitions.specs.declared.Partition.{Partition}
+use Rattle.partitions.specs.declared.Step.{Step}
+use Rattle.partitions.specs.declared.Step.the-variants.{Next, End, Broken}
+use Rattle.partitions.specs.declared.Found.{Found}
+use Rattle.partitions.specs.declared.Found.the-variants.{At, Refused}
+use Rattle.partitions.specs.Answers.{findAnswer}
+use Rattle.partitions.specs.Walk.{partitionOf, pastOf, stepAt, Walk, covered, broken, first, onStep, walkFrom, allowedLength, pickWalk, walk}
+use Rattle.partitions.specs.Find.{matches, firstMatch, findBy, findOf, areaOf}
+use Rattle.partitions.proofs.WalkLaws.{View, ends, goes, breaks, view}
+
+-- a partition with its header, inside the image
+pub record Inside (image : List ℕ) (p : Partition) : Type 0 where
+  pub header : 16 ≤ bytesOf (p .blocks) .0
+  pub fits : p .offset + bytesOf (p .blocks) .0 ≤ length image
+
+abbrev EachInside : List ℕ → List Partition → Type 0
+EachInside image [] = Unit {0}
+EachInside image (p ∷ ps) = Inside image p × EachInside image ps
+
+abbrev WalkInside : List ℕ → Walk → Type 0
+WalkInside image (covered ps) = EachInside image ps
+WalkInside image (broken e) = Unit {0}
+
+abbrev FoundInside : List ℕ → Found → Type 0
+FoundInside image (At p) = Inside image p
+FoundInside image (Refused e) = Unit {0}
+
+valid-inside : (image : List ℕ) (at : ℕ) → at < length image → validityAt image at ≡ Valid → Inside image (partitionOf image at)
+unfolding partitionOf validityAt
+valid-inside image at l e =
+    let n : headerAt image at .length .0 ≡ 0 → ⊥ = valid-nonzero (headerAt image at) at (length image - at) e in
+    let fits : headerAt image at .length .0 * 16 ≤ length image - at = valid-fits (headerAt image at) at (length image - at) e in
+    record { header = omega arith; fits = omega arith }
+
+first-inside : (image : List ℕ) (p : Partition) (w : Walk) → Inside image p → WalkInside image w → WalkInside image (first p w)
+first-inside image p (covered ps) i j = (i, j)
+first-inside image p (broken e) i j = tt
+
+from-inside : (image : List ℕ) (n at : ℕ) → WalkInside image (walkFrom n image at)
+unfolding walkFrom
+from-inside image zero at = tt
+from-inside image (suc n) at = go (stepAt image at) (view image at) (from-inside image n (pastOf image at))
+  where
+    go : (s : Step) → View image at s → WalkInside image (walkFrom n image (pastOf image at)) → WalkInside image (onStep s (λ past. walkFrom n image past))
+    go End (ends l) ih = tt
+    go (Next p c) (goes l e) ih = first-inside image (partitionOf image at) (walkFrom n image (pastOf image at)) (valid-inside image at l e) ih
+    go (Broken x) (breaks l e) ih = tt
+
+walk-inside : (image : List ℕ) → WalkInside image (walk image)
+unfolding walk
+walk-inside image = go (allowedLength (length image))
+  where
+    go : (b : Bool) → WalkInside image (pickWalk b (walkFrom (suc (length image)) image 0) (broken Rattle.header.specs.declared.Error.the-variants.ImageLength))
+    go true = from-inside image (suc (length image)) 0
+    go false = tt
+
+match-inside : (image : List ℕ) (signature : ℕ) (name : List ℕ) (ps : List Partition) → EachInside image ps → FoundInside image (firstMatch image signature name ps)
+unfolding firstMatch
+match-inside image signature name [] i = tt
+match-inside image signature name (p ∷ ps) i = go (matches image signature name (p .offset)) refl (match-inside image signature name ps (i .1))
+  where
+    go : (b : Bool) → matches image signature name (p .offset) ≡ b → FoundInside image (firstMatch image signature name ps)
+        → FoundInside image (firstMatch image signature name (p ∷ ps))
+    go true e ih = rw e (i .0)
+    go false e ih = rw e ih
+
+find-inside : (image : List ℕ) (signature : ℕ) (name : List ℕ) → FoundInside image (findOf image signature name)
+unfolding findOf findBy
+find-inside image signature name = go (walk image) (walk-inside image)
+  where
+    go : (w : Walk) → WalkInside image w → FoundInside image (findBy image signature name w)
+    go (covered ps) i = match-inside image signature name ps i
+    go (broken e) i = tt
+
+pub found-inside : (image : List ℕ) (signature : ℕ) (name : List ℕ) (p : Partition) → findOf image signature name ≡ At p → Inside image p
+found-inside image signature name p e = subst (FoundInside image) e (find-inside image signature name)
+
+-- the same of what the code has found
+module _ (image : List ℕ) (signature : ℕ) (name : List ℕ) (f : Found) (ef : f ≡ findOf image signature name) where
+  pub found-code : findAnswer f .code ≡ findAnswer (findOf image signature name) .code
+  found-code = ap (λ (x : Found). findAnswer x .code) ef
+
+  pub found-offset : findAnswer f .offset ≡ findAnswer (findOf image signature name) .offset
+  found-offset = ap (λ (x : Found). findAnswer x .offset) ef
+
+  module _ (p : Partition) (ep : f ≡ At p) where
+    module _ (b : Bytes) (eb : b ≡ bytesOf (p .blocks)) where
+      pub found-part : (16 ≤ b .0) × (p .offset + b .0 ≤ length image)
+      found-part =
+          let i = found-inside image signature name p (sym ef ∙ ep) in
+          subst (λ (x : Bytes). (16 ≤ x .0) × (p .offset + x .0 ≤ length image)) (sym eb) (i .header, i .fits)
+
+      pub found-area : take ((p .offset + b .0) - (p .offset + 16)) (drop (p .offset + 16) image) ≡ areaOf image (findOf image signature name)
+      unfolding areaOf
+      found-area =
+          let e : (p .offset + b .0) - (p .offset + 16) ≡ b .0 - 16 = omega arith in
+          ap (λ (n : ℕ). take n (drop (p .offset + 16) image)) e
+          ∙ ap (λ (x : Bytes). take (x .0 - 16) (drop (p .offset + 16) image)) eb
+          ∙ ap (areaOf image) (sym ep ∙ ef)
+
+    pub told-found : (0 ≡ findAnswer (findOf image signature name) .code) × (0 ≡ findAnswer (findOf image signature name) .offset)
+    told-found = (ap (λ (x : Found). findAnswer x .code) (sym ep ∙ ef), ap (λ (x : Found). findAnswer x .offset) (sym ep ∙ ef))
+
+  module _ (e : Error) (ee : f ≡ Refused e) where
+    pub no-area : [] ≡ areaOf image (findOf image signature name)
+    unfolding areaOf
+    no-area = ap (areaOf image) (sym ee ∙ ef)
+
+    pub told-refused : (c o : ℕ) → c ≡ codeOf e → o ≡ offsetOf e
+        → (c ≡ findAnswer (findOf image signature name) .code) × (o ≡ findAnswer (findOf image signature name) .offset)
+    told-refused c o ec eo =
+        (ec ∙ ap (λ (x : Found). findAnswer x .code) (sym ee ∙ ef), eo ∙ ap (λ (x : Found). findAnswer x .offset) (sym ee ∙ ef))
+
+-- the area has 16 x (blocks - 1) bytes: those from offset + 16 to offset + 16 x blocks
+module _ (image : List ℕ) (p : Partition) (i : Inside image p) where
+  pub area-length : length (areaOf image (At p)) ≡ 16 * (p .blocks .0 - 1)
+  unfolding areaOf
+  area-length =
+      let fits : p .offset + p .blocks .0 * 16 ≤ length image = i .fits in
+      let q : bytesOf (p .blocks) .0 - 16 ≤ length (drop (p .offset + 16) image) = omega (arith, length-drop (p .offset + 16) image) in
+      length-take-le (bytesOf (p .blocks) .0 - 16) (drop (p .offset + 16) image) q ∙ omega arith
+
+  pub area-byte : (k : ℕ) → k < 16 * (p .blocks .0 - 1) → getD (areaOf image (At p)) k 0 ≡ getD image (p .offset + 16 + k) 0
+  unfolding areaOf
+  area-byte k h =
+      getD-take (bytesOf (p .blocks) .0 - 16) (drop (p .offset + 16) image) k 0 (omega arith) ∙ getD-drop (p .offset + 16) image k 0
+
+-- an area is empty exactly where find refuses or the partition has one block
+pub data Empty : Found → Type 0 where
+  refused : {e : Error} → Empty (Refused e)
+  one-block : {p : Partition} → p .blocks .0 ≡ 1 → Empty (At p)
+
+pub area-empty : (image : List ℕ) (signature : ℕ) (name : List ℕ)
+    → (areaOf image (findOf image signature name) ≡ []) ↔ Empty (findOf image signature name)
+unfolding areaOf
+area-empty image signature name = (there (findOf image signature name) refl, back (findOf image signature name) refl)
+  where
+    there : (f : Found) → findOf image signature name ≡ f → areaOf image f ≡ [] → Empty f
+    there (Refused e) q z = refused
+    there (At p) q z =
+        let i = found-inside image signature name p q in
+        let l : 0 ≡ 16 * (p .blocks .0 - 1) = sym (ap length z) ∙ area-length image p i in
+        let h : 16 ≤ p .blocks .0 * 16 = i .header in
+        one-block {p = p} (omega arith)
+
+    back : (f : Found) → findOf image signature name ≡ f → Empty f → areaOf image f ≡ []
+    back (Refused e) q refused = refl
+    back (At p) q (one-block z) = ap (λ (n : ℕ). take (n * 16 - 16) (drop (p .offset + 16) image)) z

@@ -1,0 +1,176 @@
+-- Accepted exactly when covered, and refused by each of 1 to 5 exactly when its rule says so.
+use Prim.Native.Nat.{ℕ, suc, zero, _+_, _-_, _*_, _≤_, _<_}
+use mathlib.Core.Path.{_≡_, ap, subst, refl, sym, _∙_}
+use mathlib.Core.Logic.{_↔_}
+use mathlib.Core.Bool.{Bool, true, false, _&&_}
+use mathlib.Core.List.{List, [], _∷_}
+use native.Mathlib.Omega.{arith}
+use lib.ListN.{length}
+use lib.Dec.{leb, eqb}
+use borrow.Author.Tests.{eq-eqb, le-leb, eqb-true, leb-true}
+use Rattle.lists.specs.Bytes.{AllBytes}
+use Rattle.lists.proofs.Tests.{split, clash, and-true}
+use Rattle.header.specs.declared.Error.{Error}
+use Rattle.header.specs.declared.Error.the-variants.{ImageLength}
+use Rattle.header.specs.declared.Validity.the-variants.{Valid}
+use Rattle.header.specs.Header.{headerAt, validityAt}
+use Rattle.header.specs.Rules.{blocksAt, Sound, Breaks}
+use Rattle.header.proofs.RuleLaws.{valid-exactly, invalid-exactly, sound-valid, breaks-invalid}
+use Rattle.partitions.specs.declared.Partition.{Partition}
+use Rattle.partitions.specs.declared.Step.{Step}
+use Rattle.partitions.specs.declared.Step.the-variants.{Next, End, Broken}
+use Rattle.partitions.specs.declared.Checked.{Checked}
+use Rattle.partitions.specs.declared.Checked.the-variants.{Accepted as Accepts, Refused as Refuses}
+use Rattle.partitions.specs.Walk.{allowedLength, partitionOf, pastOf, stepAt, Walk, covered, broken, first, onStep, walkFrom, walk}
+use Rattle.partitions.specs.Find.{checkedBy, checkOf}
+use Rattle.partitions.specs.Cover.{LengthRule, partitionAt, pastAt, Cover, here, next, Accepted, Counted, Rejected, one, header}
+use Rattle.partitions.proofs.StepLaws.{step-end, step-next, step-broken}
+use Rattle.partitions.proofs.WalkLaws.{View, ends, goes, breaks, view, past-bounds, rest, rest-next, rest-end, rest-broken, walk-rest, walk-refused}
+
+-- the length rule and its test
+pub length-rule : (n : ℕ) → allowedLength n ≡ true → LengthRule n
+unfolding allowedLength
+length-rule n e =
+    let a = and-true _ _ e in
+    let b = and-true _ _ (a .1) in
+    record { multiple = eqb-true _ _ (a .0); least = leb-true _ _ (b .0); most = leb-true _ _ (b .1) }
+
+pub rule-length : (n : ℕ) → LengthRule n → allowedLength n ≡ true
+unfolding allowedLength
+rule-length n r = rw (eq-eqb _ _ (r .multiple), le-leb _ _ (r .least), le-leb _ _ (r .most))
+
+pub not-length : (n : ℕ) → ¬ (LengthRule n) → allowedLength n ≡ false
+not-length n q = split (allowedLength n) (λ t. absurd (q (length-rule n t))) (λ t. t)
+
+-- the partition and the next offset that the walk computes are those of the image's bytes
+pub partition-same : (image : List ℕ) (at : ℕ) → partitionOf image at ≡ partitionAt image at
+unfolding partitionOf partitionAt headerAt blocksAt
+partition-same image at = refl
+
+pub past-same : (image : List ℕ) (at : ℕ) → pastOf image at ≡ pastAt image at
+unfolding pastOf pastAt headerAt blocksAt
+past-same image at = refl
+
+-- partitions put before what a walk finds
+abbrev pub prepend : List Partition → Walk → Walk
+prepend [] w = w
+prepend (p ∷ ps) w = first p (prepend ps w)
+
+prepend-covered : (ps : List Partition) → prepend ps (covered []) ≡ covered ps
+prepend-covered [] = refl
+prepend-covered (p ∷ ps) = ap (first p) (prepend-covered ps)
+
+prepend-broken : (ps : List Partition) (e : Error) → prepend ps (broken e) ≡ broken e
+prepend-broken [] e = refl
+prepend-broken (p ∷ ps) e = ap (first p) (prepend-broken ps e)
+
+module _ (image : List ℕ) (bytes : AllBytes image) where
+  sound-inside : (at : ℕ) → Sound image at → at < length image
+  sound-inside at s = omega (arith, s .nonzero, s .inside)
+
+  sound-rest : (at : ℕ) → Sound image at → rest image at ≡ first (partitionAt image at) (rest image (pastAt image at))
+  sound-rest at s =
+      rest-next image at (partitionOf image at) (record { at = pastOf image at })
+      (step-next image at (sound-inside at s) (sound-valid image at bytes s))
+      ∙ (λ i. first (partition-same image at i) (rest image (past-same image at i)))
+
+  -- a walk passes what is covered
+  pub cover-rest : {a b : ℕ} {ps : List Partition} → Cover image a b ps → rest image a ≡ prepend ps (rest image b)
+  cover-rest here = refl
+  cover-rest (next {a = a} s c) = sound-rest a s ∙ ap (first (partitionAt image a)) (cover-rest c)
+
+  pub cover-covered : {a : ℕ} {ps : List Partition} → Cover image a (length image) ps → rest image a ≡ covered ps
+  cover-covered {ps = ps} c =
+      cover-rest c ∙ ap (prepend ps) (rest-end image (length image) (step-end image (length image) (omega arith))) ∙ prepend-covered ps
+
+  pub cover-broken : {a b : ℕ} {ps : List Partition} {e : Error} → Cover image a b ps → b < length image → Breaks image b e → rest image a ≡ broken e
+  cover-broken {b = b} {ps = ps} {e = e} c l x =
+      cover-rest c ∙ ap (prepend ps) (rest-broken image b e (step-broken image b l e (breaks-invalid image b bytes x))) ∙ prepend-broken ps e
+
+  -- what a walk finds, by the rules
+  data Outcome (a : ℕ) : Walk → Type 0 where
+    complete : {ps : List Partition} → Cover image a (length image) ps → Outcome a (covered ps)
+    stopped : {b : ℕ} {ps : List Partition} {e : Error} → Cover image a b ps → b < length image → Breaks image b e → Outcome a (broken e)
+
+  outcome-first : (a : ℕ) → Sound image a → (w : Walk) → Outcome (pastAt image a) w → Outcome a (first (partitionAt image a) w)
+  outcome-first a s (covered ps) (complete c) = complete (next s c)
+  outcome-first a s (broken e) (stopped c l x) = stopped (next s c) l x
+
+  outcome : (n at : ℕ) → at ≤ length image → length image - at < n → Outcome at (walkFrom n image at)
+  unfolding walkFrom
+  outcome zero at l h = absurd (omega arith)
+  outcome (suc n) at l h = go (stepAt image at) (view image at) (outcome n (pastOf image at))
+    where
+      go : (s : Step) → View image at s
+          → (pastOf image at ≤ length image → length image - pastOf image at < n → Outcome (pastOf image at) (walkFrom n image (pastOf image at)))
+          → Outcome at (onStep s (λ past. walkFrom n image past))
+      go End (ends e) ih = let z : length image ≡ at = omega arith in complete {ps = []} (rw z here)
+      go (Next p c) (goes i v) ih =
+          let b = past-bounds image at i v in
+          let o : Outcome (pastAt image at) (walkFrom n image (pastOf image at)) =
+          subst (λ (k : ℕ). Outcome k (walkFrom n image (pastOf image at))) (past-same image at) (ih (omega arith) (omega arith)) in
+          rw (partition-same image at) (outcome-first at (valid-exactly image at bytes .0 v) (walkFrom n image (pastOf image at)) o)
+      go (Broken x) (breaks i v) ih = stopped here i (invalid-exactly image at bytes x .0 v)
+
+  rest-outcome : Outcome 0 (rest image 0)
+  unfolding rest
+  rest-outcome = outcome (suc (length image - 0)) 0 (omega arith) (omega arith)
+
+  -- what the walk of an image finds, by the rules
+  pub data Walked : Walk → Type 0 where
+    accepts : {ps : List Partition} → Accepted image ps → Walked (covered ps)
+    rejects : {e : Error} → Rejected image e → Walked (broken e)
+
+  walked-by : LengthRule (length image) → (w : Walk) → Outcome 0 w → Walked w
+  walked-by l (covered ps) (complete c) = accepts (record { long = l; cover = c })
+  walked-by l (broken e) (stopped c i x) = rejects (header l c i x)
+
+  pub walked : Walked (walk image)
+  walked =
+      split (allowedLength (length image))
+      (λ t. rw (walk-rest image t) (walked-by (length-rule (length image) t) (rest image 0) rest-outcome))
+      (λ t. rw (walk-refused image t) (rejects (one (λ l. clash (cc (rule-length (length image) l))))))
+
+  -- an image is accepted exactly when it has an allowed length and partitions cover it from byte 0 to the last byte
+  pub accepted-exactly : (ps : List Partition) → (walk image ≡ covered ps) ↔ Accepted image ps
+  accepted-exactly ps = (go (walk image) walked, λ a. walk-rest image (rule-length _ (a .long)) ∙ cover-covered (a .cover))
+    where
+      go : (w : Walk) → Walked w → w ≡ covered ps → Accepted image ps
+      go (covered qs) (accepts a) e = let q : qs ≡ ps = cc in rw q at a
+      go (broken x) (rejects r) e = clash (cc)
+
+  rejected-broken : {e : Error} → Rejected image e → walk image ≡ broken e
+  rejected-broken (one q) = walk-refused image (not-length (length image) q)
+  rejected-broken (header l c i x) = walk-rest image (rule-length _ l) ∙ cover-broken c i x
+
+  -- refused by a number at a place exactly when a cover reaches that place and that rule is the first one broken there
+  pub rejected-exactly : (e : Error) → (walk image ≡ broken e) ↔ Rejected image e
+  rejected-exactly e = (go (walk image) walked, rejected-broken)
+    where
+      go : (w : Walk) → Walked w → w ≡ broken e → Rejected image e
+      go (covered qs) (accepts a) q = clash (cc)
+      go (broken x) (rejects r) q = let p : x ≡ e = cc in rw p at r
+
+  -- two covers of an image are the same
+  pub one-cover : {a : ℕ} {ps qs : List Partition} → Cover image a (length image) ps → Cover image a (length image) qs → ps ≡ qs
+  one-cover c d = same (sym (cover-covered c) ∙ cover-covered d)
+    where
+      same : {ps qs : List Partition} → covered ps ≡ covered qs → ps ≡ qs
+      same e = cc
+
+  -- the count answered is the number of partitions in the cover
+  pub check-accepts : (n : ℕ) → (checkOf image ≡ Accepts n) ↔ Counted image n
+  unfolding checkOf checkedBy
+  check-accepts n = (go (walk image) walked, λ k. ap checkedBy (accepted-exactly (k .all) .1 (k .accepted)) ∙ ap Accepts (k .counted))
+    where
+      go : (w : Walk) → Walked w → checkedBy w ≡ Accepts n → Counted image n
+      go (covered ps) (accepts a) e = record { all = ps; accepted = a; counted = cc }
+      go (broken x) (rejects r) e = clash (cc)
+
+  pub check-refuses : (e : Error) → (checkOf image ≡ Refuses e) ↔ Rejected image e
+  unfolding checkOf checkedBy
+  check-refuses e = (go (walk image) walked, λ r. ap checkedBy (rejected-broken r))
+    where
+      go : (w : Walk) → Walked w → checkedBy w ≡ Refuses e → Rejected image e
+      go (covered ps) (accepts a) q = clash (cc)
+      go (broken x) (rejects r) q = let p : x ≡ e = cc in rw p at r

@@ -1,0 +1,85 @@
+-- The comparison of a header's name with a name that is filled with 0x00.
+use Prim.Native.Nat.{ℕ, suc, zero, _+_, _-_, _≤_, _<_}
+use mathlib.Core.Path.{_≡_, ap, refl, sym, _∙_}
+use mathlib.Core.Bool.{Bool, true, false, _&&_}
+use mathlib.Core.List.{List, [], _∷_, _++_}
+use native.Mathlib.Omega.{arith}
+use lib.ListN.{length, drop, getD, replicate, length-append, length-replicate, drop-of-length-le}
+use lib.Dec.{eqb}
+use borrow.Author.Tests.{eq-eqb, ne-eqb}
+use Rattle.lists.specs.Bytes.{sameBytes}
+use Rattle.lists.proofs.ByteLaws.{same-longer, same-step}
+use Rattle.header.specs.declared.Header.{Header}
+use Rattle.header.specs.Header.{headerAt, nameAt}
+use Rattle.partitions.specs.Find.{padded, matches}
+
+zeros-at : (k i : ℕ) → _≡_ {A = ℕ} (getD (replicate k 0) i 0) 0
+zeros-at zero i = refl
+zeros-at (suc k) zero = refl
+zeros-at (suc k) (suc i) = zeros-at k i
+
+filled-at : (name : List ℕ) (k i : ℕ) → getD (name ++ replicate k 0) i 0 ≡ getD name i 0
+filled-at [] k i = zeros-at k i
+filled-at (x ∷ xs) k zero = refl
+filled-at (x ∷ xs) k (suc i) = filled-at xs k i
+
+pub length-padded : (n : ℕ) (name : List ℕ) → length (padded n name) ≡ length name + (n - length name)
+unfolding padded
+length-padded n name = simp (length-append, length-replicate)
+
+padded-at : (n : ℕ) (name : List ℕ) (i : ℕ) → getD (padded n name) i 0 ≡ getD name i 0
+unfolding padded
+padded-at n name i = filled-at name (n - length name) i
+
+-- the bytes before i agree
+abbrev pub Agree : List ℕ → List ℕ → ℕ → Type 0
+Agree stored name i =
+    sameBytes (drop i stored) (drop i (padded (length stored) name)) ≡ sameBytes stored (padded (length stored) name)
+
+module _ (stored name : List ℕ) where
+  pub too-long : length stored < length name → false ≡ sameBytes stored (padded (length stored) name)
+  too-long h = sym (same-longer stored (padded (length stored) name) (omega (arith, length-padded (length stored) name)))
+
+  module _ (short : length name ≤ length stored) (i : ℕ) (inv : Agree stored name i) where
+    at-step : i < length stored → (b : ℕ) → b ≡ getD name i 0
+        → (eqb (getD stored i 0) b && sameBytes (drop (i + 1) stored) (drop (i + 1) (padded (length stored) name)))
+        ≡ sameBytes stored (padded (length stored) name)
+    at-step h b e =
+        ap (λ (k : ℕ). eqb (getD stored i 0) k && sameBytes (drop (i + 1) stored) (drop (i + 1) (padded (length stored) name)))
+        (e ∙ sym (padded-at (length stored) name i))
+        ∙ sym (same-step stored (padded (length stored) name) i h (omega (arith, length-padded (length stored) name))) ∙ inv
+
+    pub agree-next : i < length stored → (b : ℕ) → b ≡ getD name i 0 → getD stored i 0 ≡ b → Agree stored name (i + 1)
+    agree-next h b e q = rw (eq-eqb _ _ q) at (at-step h b e)
+
+    pub agree-differs : i < length stored → (b : ℕ) → b ≡ getD name i 0 → (getD stored i 0 ≡ b → ⊥)
+        → false ≡ sameBytes stored (padded (length stored) name)
+    agree-differs h b e q = rw (ne-eqb _ _ q) at (at-step h b e)
+
+    pub agree-all : length stored ≤ i → true ≡ sameBytes stored (padded (length stored) name)
+    unfolding sameBytes
+    agree-all h =
+        let e : drop i stored ≡ [] = drop-of-length-le stored h in
+        let f : drop i (padded (length stored) name) ≡ [] =
+        drop-of-length-le (padded (length stored) name) {i = i} (omega (arith, length-padded (length stored) name)) in
+        rw (e, f) at inv
+
+-- the header that was read, compared field by field
+module _ (image : List ℕ) (at signature : ℕ) (name : List ℕ) (h : Header) (eh : h ≡ headerAt image at) where
+  signature-of : headerAt image at .signature ≡ h .signature
+  signature-of = ap (λ (x : Header). x .signature) (sym eh)
+
+  name-length : length (headerAt image at .name) ≡ 12
+  unfolding headerAt nameAt
+  name-length = refl
+
+  pub named-here : h .signature ≡ signature → (r : Bool) → r ≡ sameBytes (h .name) (padded (length (h .name)) name) → r ≡ matches image signature name at
+  unfolding matches
+  named-here es r er =
+      rw (eq-eqb _ _ (signature-of ∙ es))
+      (er ∙ ap (λ (x : Header). sameBytes (x .name) (padded (length (x .name)) name)) eh
+      ∙ ap (λ (n : ℕ). sameBytes (headerAt image at .name) (padded n name)) name-length)
+
+  pub not-named : (h .signature ≡ signature → ⊥) → false ≡ matches image signature name at
+  unfolding matches
+  not-named d = rw (ne-eqb (headerAt image at .signature) signature (λ q. d (sym signature-of ∙ q)))

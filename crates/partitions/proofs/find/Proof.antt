@@ -1,0 +1,129 @@
+use Prim.Native.Nat.{ℕ, _-_, _<_, _≤_}
+use mathlib.Core.Path.{_≡_, sym, _∙_, ap, subst}
+use mathlib.Core.Bool.{Bool}
+use mathlib.Core.List.{List}
+use native.Mathlib.Omega.{arith}
+use lib.ListN.{length}
+use denote.Ref.{now}
+use borrow.Author.Tests.{not-true, not-false}
+use Rattle.header.specs.declared.Error.the-variants.{NoPartition}
+use Rattle.partitions.specs.declared.Partition.{Partition}
+use Rattle.partitions.specs.declared.Cursor.{Cursor}
+use Rattle.partitions.specs.declared.Step.the-variants.{Next}
+use Rattle.partitions.specs.declared.Found.{Found}
+use Rattle.partitions.specs.declared.Found.the-variants.{Refused}
+use Rattle.partitions.specs.Find.{findOf, keepFirst}
+use Rattle.partitions.proofs.WalkLaws.{next-bounds, rest, onWalk, loop-next, loop-end, loop-broken}
+use Rattle.partitions.proofs.FindLaws.{seekName, name-refused, name-start}
+use borrow.Author.Needs.{needs}
+use Rattle.partitions.proofs.find.Statement.{statement}
+use Rattle.partitions.proofs.find.Tie as tie
+
+abbrev Inv-loop : tie.InvT-loop
+Inv-loop image signature name cursor₀ best₀ cursor best = onWalk (seekName image signature name best) Refused (rest image (cursor .at)) ≡ findOf image signature name
+
+abbrev μ-loop : tie.MeasureT-loop
+μ-loop image signature name cursor₀ best₀ cursor best = length image - cursor .at
+
+abbrev imageOf : tie.After-step Inv-loop μ-loop → List ℕ
+imageOf s = now (s .before .before .before .before .before .before .before .args .image)
+
+-- what the turns so far make of the partitions that are left
+abbrev seek : tie.After-step Inv-loop μ-loop → Found → List Partition → Found
+seek s =
+    let a = s .before .before .before .before .before .before .before .args in
+    seekName (now (a .image)) (a .signature) (now (a .name))
+
+-- a step that goes on, goes on inside the image
+on : (s : tie.After-step Inv-loop μ-loop) (p : Partition) (n : Cursor) → s .step .result ≡ Next p n
+    → (s .before .loop .cursor .at < n .at) × (n .at ≤ length (imageOf s))
+on s p n e = next-bounds (imageOf s) (s .before .loop .cursor .at) p n (sym (s .step .ensures) ∙ e)
+
+allowed-length-requires : tie.Need-allowed-length-requires Inv-loop μ-loop
+allowed-length-requires c κs = search needs
+
+returns : tie.Need-returns Inv-loop μ-loop
+returns c =
+    let k = c .before in
+    let a = k .before .before .before .args in
+    name-refused (now (a .image)) (a .signature) (now (a .name)) (sym (k .allowed-length .ensures) ∙ not-true _ (c .if1 .taken))
+
+start-requires : tie.Need-start-requires Inv-loop μ-loop
+start-requires c κs = search needs
+
+loop-holds : tie.Need-loop-holds Inv-loop μ-loop
+loop-holds c =
+    let k = c .before .before in
+    let a = k .before .before .before .args in
+    let image = now (a .image) in
+    subst (λ (s : Cursor). onWalk (seekName image (a .signature) (now (a .name)) (Refused NoPartition)) Refused (rest image (s .at)) ≡ findOf image (a .signature) (now (a .name))) (sym (c .start .ensures))
+    (name-start image (a .signature) (now (a .name)) (sym (k .allowed-length .ensures) ∙ not-false _ (c .before .if1 .left)))
+
+step-requires : tie.Need-step-requires Inv-loop μ-loop
+step-requires c κs = search needs
+
+enum-known-step : tie.Need-enum-known-step Inv-loop μ-loop
+enum-known-step c = search needs
+
+is-named-requires : tie.Need-is-named-requires Inv-loop μ-loop
+is-named-requires c κs = search needs
+
+first-of-requires : tie.Need-first-of-requires Inv-loop μ-loop
+first-of-requires c κs = search needs
+
+loop-less : tie.Need-loop-less Inv-loop μ-loop
+loop-less c =
+    let t = c .before .before in
+    let g = t .before .step2 .given in
+    omega (arith, on (t .before .before .before) (g .0 .0) (g .0 .1 .0) (g .1))
+
+loop-again : tie.Need-loop-again Inv-loop μ-loop
+loop-again c =
+    let n = c .before in
+    let t = n .before in
+    let s = t .before .before .before in
+    let l = s .before in
+    let g = t .before .step2 .given in
+    loop-next (imageOf s) (l .loop .cursor .at) (seek s (l .loop .best)) Refused _ (l .loop .inv) (g .0 .0) (g .0 .1 .0) (sym (s .step .ensures) ∙ g .1)
+    (seek s (c .first-of .result))
+    (λ ps. ap (λ (b : Found). seek s b ps) (sym (c .first-of .ensures ∙ ap (λ (w : Bool). keepFirst (l .loop .best) w (g .0 .0)) (n .is-named .ensures))))
+
+enum-told : tie.Need-enum-told Inv-loop μ-loop
+enum-told c = search needs
+
+enum-known-step-2 : tie.Need-enum-known-step-2 Inv-loop μ-loop
+enum-known-step-2 c = search needs
+
+returns-2 : tie.Need-returns-2 Inv-loop μ-loop
+returns-2 c =
+    let s = c .before .before in
+    let l = s .before in
+    loop-end (imageOf s) (l .loop .cursor .at) (seek s (l .loop .best)) Refused _ (l .loop .inv) (sym (s .step .ensures) ∙ c .enum-told .given .1)
+
+returns-3 : tie.Need-returns-3 Inv-loop μ-loop
+returns-3 c =
+    let s = c .before .before .before in
+    let l = s .before in
+    let g = c .before .step3 .given in
+    loop-broken (imageOf s) (l .loop .cursor .at) (seek s (l .loop .best)) Refused _ (l .loop .inv) (g .0 .0) (sym (s .step .ensures) ∙ g .1)
+
+pub find-spec : {M : Type 1} → statement M
+find-spec =
+    tie.close
+    (tie.spec
+    Inv-loop
+    μ-loop
+    allowed-length-requires
+    returns
+    start-requires
+    loop-holds
+    step-requires
+    enum-known-step
+    is-named-requires
+    first-of-requires
+    loop-less
+    loop-again
+    enum-told
+    enum-known-step-2
+    returns-2
+    returns-3)
