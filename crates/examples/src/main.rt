@@ -1,0 +1,88 @@
+// Runs example 12 of document 01 and prints what the library answers.
+ghost use mathlib.Core.Path.{_≡_};
+ghost use lib.ListN.{length};
+use header::Blocks;
+use header::Header;
+use libc::STDOUT_FILENO;
+
+// The greatest image: 65,536 blocks.
+const BLOCKS: u32 = 65536;
+
+const BYTES: usize = 1048576;
+
+fn main() {
+    let mut image = blank_image();
+    put_header(&mut image, 0, 4096);
+    area_of(&image, 4096);
+    put_header(&mut image, 0, Header::MAX_LENGTH);
+    area_of(&image, Header::MAX_LENGTH);
+    write_check(&image, b"65535 blocks and a zero block: ");
+    put_header(&mut image, 1048560, 1);
+    write_check(&image, b"65535 and 1 blocks: ");
+    put_header(&mut image, 0, BLOCKS);
+    write_check(&image, b"65536 blocks in one header: ");
+}
+
+// The greatest image, all zero; the `ensures` gives its length, which lending a part of it asks.
+fn blank_image() -> [u8; 1048576]
+    ensures { λ r. ⌜ 1048576 ≡ length r ⌝ }
+{
+    [0; 1048576]
+}
+
+// Writes the header of a partition `common` of so many blocks at an offset, where there is room for it.
+fn put_header(image: &mut [u8], at: usize, blocks: u32) {
+    let name = [99, 111, 109, 109, 111, 110, 0, 0, 0, 0, 0, 0];
+    let made = Header::new(0x70, Blocks(blocks), name);
+    let h = made.header;
+    let high = (blocks / 256 % 256) as u8;
+    let low = (blocks % 256) as u8;
+    let start = [h.signature, h.checksum, high, low];
+    if 1048576 < at {
+        return;
+    }
+    if image.len() < at + Header::SIZE {
+        return;
+    }
+    let mid = at + 4;
+    let end = at + 16;
+    lists::copy(&start, &mut image[at..mid]);
+    lists::copy(&name, &mut image[mid..end]);
+}
+
+// Writes the length of the data area of `common` in the image's first blocks.
+fn area_of(image: &[u8], blocks: u32) {
+    let bytes = Blocks(blocks).bytes();
+    let end = bytes.0;
+    if image.len() < end {
+        return;
+    }
+    let mut code: u32 = 0;
+    let mut offset: usize = 0;
+    let area = partitions::area(&image[..end], 0x70, b"common", &mut code, &mut offset);
+    let n = area.len();
+    io::print_decimal(STDOUT_FILENO, blocks as u64);
+    io::write_all(STDOUT_FILENO, b" blocks: code ");
+    io::print_decimal(STDOUT_FILENO, code as u64);
+    io::write_all(STDOUT_FILENO, b", area of ");
+    io::print_decimal(STDOUT_FILENO, n as u64);
+    io::write_all(STDOUT_FILENO, b" bytes\n");
+}
+
+// Writes a title and the image check's answer.
+fn write_check(image: &[u8], title: &[u8]) {
+    let checked = partitions::check(image);
+    let answer = checked.answer();
+    io::write_all(STDOUT_FILENO, title);
+    if answer.code == 0 {
+        io::write_all(STDOUT_FILENO, b"accepted, ");
+        io::print_decimal(STDOUT_FILENO, answer.partitions as u64);
+        io::write_all(STDOUT_FILENO, b" partitions\n");
+        return;
+    }
+    io::write_all(STDOUT_FILENO, b"refused ");
+    io::print_decimal(STDOUT_FILENO, answer.code as u64);
+    io::write_all(STDOUT_FILENO, b" at ");
+    io::print_decimal(STDOUT_FILENO, answer.offset as u64);
+    io::write_all(STDOUT_FILENO, b"\n");
+}
