@@ -12,9 +12,9 @@ use Rattle.partitions.specs.Walk.{Walk, covered, broken, walk}
 
 -- a number in decimal digits, without leading zeros; the first number bounds the digits
 unfoldable pub decimalFrom : ℕ → ℕ → List ℕ
-decimalFrom zero n = 48 + n % 10 ∷ []
+decimalFrom zero n = (48 + n % 10) ∷ []
 decimalFrom (suc f) n =
-    elim (ltb n 10) [ true ↦ 48 + n ∷ [] | false ↦ decimalFrom f (n / 10) ++ 48 + n % 10 ∷ [] ]
+    elim (ltb n 10) [ true ↦ (48 + n) ∷ [] | false ↦ decimalFrom f (n / 10) ++ (48 + n % 10) ∷ [] ]
 
 unfoldable pub decimal : ℕ → List ℕ
 decimal n = decimalFrom n n

@@ -1,0 +1,4 @@
+pub mod WordLaws
+pub mod PieceLaws
+pub mod LinesLaws
+pub mod TextLaws

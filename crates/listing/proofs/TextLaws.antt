@@ -1,0 +1,215 @@
+-- Laws of the text: a number in decimal reads back, a text is never longer than 131,072 bytes, and what it is in each case.
+use Prim.Native.Nat.{ℕ, zero, suc, _+_, _-_, _*_, _/_, _%_, _≤_, _<_}
+use mathlib.Core.Path.{_≡_, refl, sym, ap, _∙_}
+use mathlib.Core.Bool.{Bool, true, false, not}
+use mathlib.Core.List.{List, [], _∷_, _++_}
+use native.Mathlib.Omega.{arith}
+use lib.Dec.{eqb, ltb}
+use lib.ListN.{length, getD, length-append, List·getD-append}
+use borrow.Author.Tests.{ltb-true, ltb-false, lt-ltb, le-ltb}
+use Rattle.lists.specs.Bytes.{Every}
+use Rattle.lists.proofs.Tests.{split, clash}
+use Rattle.header.specs.declared.Error.{Error}
+use Rattle.header.specs.declared.Error.the-variants.{
+  ImageLength,
+  ZeroLength,
+  PastEnd,
+  Checksum,
+  ZeroChecksum,
+  NoPartition,
+  AreaEnd,
+  StoredName,
+  Escape,
+  Repeated,
+  BadName,
+  NoVariable,
+  NoRoom,
+  ShortBuffer,
+}
+use Rattle.header.specs.declared.Validity.the-variants.{Valid, Invalid}
+use Rattle.header.specs.Errors.{codeOf, offsetOf}
+use Rattle.header.specs.declared.Header.{Header}
+use Rattle.header.specs.Checksum.{sumcheck}
+use Rattle.header.specs.Header.{bytesOf, covered as summed, headerAt, validityOf, validityAt, pickValidity}
+use Rattle.partitions.specs.declared.Partition.{Partition}
+use Rattle.partitions.specs.declared.Step.{Step}
+use Rattle.partitions.specs.declared.Step.the-variants.{Next, End, Broken as Breaks}
+use Rattle.partitions.specs.Walk.{stepAt, partitionOf, pastOf, Walk, covered, broken, first, onStep, walkFrom, walk, allowedLength}
+use Rattle.partitions.proofs.WalkLaws.{View, ends, goes, breaks, view, rest, walk-rest, walk-refused}
+use Rattle.listing.specs.declared.Measured.the-variants.{Lines, Broken}
+use Rattle.listing.specs.Text.{decimal, line, lines, blocksSum, heading, blocksWord, tooLong, textBy, listingText}
+use Rattle.listing.specs.Parts.{measuredBy, measuredOf, linesBy, linesOf, Covered}
+use Rattle.listing.proofs.WordLaws.{by-digits, decimal-digit, decimal-more, decimal-some, decimal-within}
+use Rattle.listing.proofs.LinesLaws.{Goes, valid-goes, goes-within}
+
+-- the number that digits spell, after those that were read
+unfoldable pub numberFrom : ℕ → List ℕ → ℕ
+numberFrom n [] = n
+numberFrom n (d ∷ ds) = numberFrom (n * 10 + (d - 48)) ds
+
+unfoldable pub number : List ℕ → ℕ
+number ds = numberFrom 0 ds
+
+number-last : (n : ℕ) (ds : List ℕ) (d : ℕ) → numberFrom n (ds ++ d ∷ []) ≡ numberFrom n ds * 10 + (d - 48)
+unfolding numberFrom
+number-last n [] d = refl
+number-last n (x ∷ ds) d = number-last (n * 10 + (x - 48)) ds d
+
+-- the digits, read back, give the number
+pub decimal-value : (n : ℕ) → number (decimal n) ≡ n
+unfolding number numberFrom
+decimal-value =
+    by-digits (λ n. number (decimal n) ≡ n) (λ n h. rw (decimal-digit n h) (omega arith))
+    (λ n h e. rw (decimal-more n h) (number-last 0 (decimal (n / 10)) (48 + n % 10) ∙ rw e (omega arith)))
+
+every-append : (P : ℕ → Type 0) (xs ys : List ℕ) → Every P xs → Every P ys → Every P (xs ++ ys)
+every-append P [] ys hx hy = hy
+every-append P (x ∷ xs) ys hx hy = (hx .0, every-append P xs ys (hx .1) hy)
+
+-- every byte is a digit
+pub decimal-digits : (n : ℕ) → Every (λ d. (0x30 ≤ d) × (d ≤ 0x39)) (decimal n)
+decimal-digits =
+    by-digits (λ n. Every (λ d. (0x30 ≤ d) × (d ≤ 0x39)) (decimal n)) (λ n h. rw (decimal-digit n h) ((omega arith, omega arith), tt))
+    (λ n h e. rw (decimal-more n h) (every-append _ (decimal (n / 10)) ((48 + n % 10) ∷ []) e ((omega arith, omega arith), tt)))
+
+-- no leading zero
+pub decimal-first : (n : ℕ) → 0 < n → getD (decimal n) 0 0 ≡ 0x30 → ⊥
+decimal-first =
+    by-digits (λ n. 0 < n → getD (decimal n) 0 0 ≡ 0x30 → ⊥) (λ n h p. rw (decimal-digit n h) (λ e. omega arith))
+    (λ n h ih p e. ih (omega arith) (sym (List·getD-append (decimal (n / 10)) ((48 + n % 10) ∷ []) 0 0 (decimal-some (n / 10)))
+    ∙ sym (ap (λ (l : List ℕ). getD l 0 0) (decimal-more n h)) ∙ e))
+
+pub code-most : (e : Error) → codeOf e ≤ 14
+code-most ImageLength = omega arith
+code-most (ZeroLength at) = omega arith
+code-most (PastEnd at) = omega arith
+code-most (Checksum at) = omega arith
+code-most (ZeroChecksum at) = omega arith
+code-most NoPartition = omega arith
+code-most (AreaEnd at) = omega arith
+code-most (StoredName at) = omega arith
+code-most (Escape at) = omega arith
+code-most (Repeated at) = omega arith
+code-most BadName = omega arith
+code-most NoVariable = omega arith
+code-most NoRoom = omega arith
+code-most ShortBuffer = omega arith
+
+-- what breaks a header's rules is answered with its offset
+place-by : (a b c d : Bool) (at : ℕ) (e : Error)
+    → pickValidity a (Invalid (ZeroLength at)) (pickValidity b (Invalid (PastEnd at)) (pickValidity c (Invalid (Checksum at)) (pickValidity d (Invalid (ZeroChecksum at)) Valid)))
+    ≡ Invalid e → offsetOf e ≡ at
+place-by true b c d at e q = let z : ZeroLength at ≡ e = cc in sym (ap offsetOf z)
+place-by false true c d at e q = let z : PastEnd at ≡ e = cc in sym (ap offsetOf z)
+place-by false false true d at e q = let z : Checksum at ≡ e = cc in sym (ap offsetOf z)
+place-by false false false true at e q = let z : ZeroChecksum at ≡ e = cc in sym (ap offsetOf z)
+place-by false false false false at e q = clash (cc)
+
+invalid-place : (image : List ℕ) (at : ℕ) (e : Error) → validityAt image at ≡ Invalid e → offsetOf e ≡ at
+unfolding validityAt validityOf
+invalid-place image at e q =
+    let h : Header = headerAt image at in
+    place-by (eqb (h .length .0) 0) (ltb (length image - at) (bytesOf (h .length) .0)) (not (eqb (h .checksum) (sumcheck (summed h))))
+    (eqb (sumcheck (summed h)) 0) at e q
+
+-- what a walk from an offset finds: lines of at most 28 bytes for each block, or a place inside the image
+data Within (image : List ℕ) (at : ℕ) : Walk → Type 0 where
+  fine : {ps : List Partition} → 4 * length (lines image ps) ≤ 7 * (length image - at) → 16 * blocksSum ps ≤ length image - at → Within image at (covered ps)
+  stops : {e : Error} → offsetOf e ≤ length image → Within image at (broken e)
+
+module _ (image : List ℕ) (h : length image ≤ 65_536) where
+  within-first : (at : ℕ) → Goes image at (partitionOf image at) (record { at = pastOf image at }) → (w : Walk) → Within image (pastOf image at) w
+      → Within image at (first (partitionOf image at) w)
+  unfolding lines blocksSum
+  within-first at g (covered ps) (fine a b) =
+      let p : Partition = partitionOf image at in
+      let l : length (line image p) ≤ 28 = goes-within image at p (record { at = pastOf image at }) h g in
+      let n : length (line image p ++ lines image ps) ≡ length (line image p) + length (lines image ps) = length-append (line image p) (lines image ps) in
+      fine {ps = partitionOf image at ∷ ps} (omega (arith, g .some, g .past, g .inside)) (omega (arith, g .past, g .inside))
+  within-first at g (broken e) (stops a) = stops a
+
+  within : (n at : ℕ) → at ≤ length image → length image - at < n → Within image at (walkFrom n image at)
+  unfolding walkFrom lines blocksSum
+  within zero at l f = absurd (omega arith)
+  within (suc n) at l f = go (stepAt image at) (view image at) (within n (pastOf image at))
+    where
+      go : (s : Step) → View image at s
+          → (pastOf image at ≤ length image → length image - pastOf image at < n → Within image (pastOf image at) (walkFrom n image (pastOf image at)))
+          → Within image at (onStep s (λ past. walkFrom n image past))
+      go End (ends e) ih = fine {ps = []} (omega arith) (omega arith)
+      go (Next p c) (goes i v) ih =
+          let g = valid-goes image at i v in
+          within-first at g (walkFrom n image (pastOf image at)) (ih (g .inside) (omega (arith, g .some, g .past)))
+      go (Breaks x) (breaks i v) ih = stops {e = x} (omega (arith, invalid-place image at x v))
+
+  rest-within : Within image 0 (rest image 0)
+  unfolding rest
+  rest-within = within (suc (length image - 0)) 0 (omega arith) (omega arith)
+
+  walk-within : Within image 0 (walk image)
+  walk-within =
+      split (allowedLength (length image)) (λ t. rw (walk-rest image t) rest-within)
+      (λ t. rw (walk-refused image t) (stops {e = ImageLength} (omega arith)))
+
+  length-by : (w : Walk) → Within image 0 w → length (textBy image w) ≤ 131_072
+  unfolding textBy
+  length-by (covered ps) (fine a b) =
+      simp length-append (omega (arith, decimal-within 4 (blocksSum ps) (omega arith)))
+  length-by (broken e) (stops a) =
+      simp length-append (omega (arith, decimal-within 1 (codeOf e) (omega (arith, code-most e)), decimal-within 4 (offsetOf e) (omega arith)))
+
+  pub text-by-fits : length (textBy image (walk image)) ≤ 131_072
+  text-by-fits = length-by (walk image) walk-within
+
+module _ (image : List ℕ) where
+  pub text-too-long : 65_536 < length image → listingText image ≡ tooLong
+  unfolding listingText
+  text-too-long h = rw (lt-ltb _ _ h, listingText)
+
+  pub text-by-walk : length image ≤ 65_536 → listingText image ≡ textBy image (walk image)
+  unfolding listingText
+  text-by-walk h = rw (le-ltb _ _ h, listingText)
+
+-- a text has at most 131,072 bytes
+pub text-fits : (image : List ℕ) → length (listingText image) ≤ 131_072
+text-fits image =
+    split (ltb 65_536 (length image)) (λ t. rw (text-too-long image (ltb-true _ _ t)) (omega arith))
+    (λ t. let h : length image ≤ 65_536 = ltb-false _ _ t in rw (text-by-walk image h) (text-by-fits image h))
+
+-- an image of which the lines are measured
+pub record Told (image : List ℕ) (bytes blocks : ℕ) : Type 0 where
+  pub all : List Partition
+  pub so : walk image ≡ covered all
+  pub bytes-so : bytes ≡ length (lines image all)
+  pub blocks-so : blocks ≡ blocksSum all
+
+module _ (image : List ℕ) (bytes blocks : ℕ) (m : measuredOf image ≡ Lines bytes blocks) where
+  told : Told image bytes blocks
+  unfolding measuredOf measuredBy
+  told = go (walk image) refl m
+    where
+      go : (w : Walk) → walk image ≡ w → measuredBy image w ≡ Lines bytes blocks → Told image bytes blocks
+      go (covered ps) e q = record { all = ps; so = e; bytes-so = cc; blocks-so = cc }
+      go (broken x) e q = clash (cc)
+
+  pub measured-covered : Covered image
+  measured-covered = record { all = told .all; so = told .so }
+
+  pub measured-pieces : heading ++ linesOf image ++ decimal blocks ++ blocksWord ≡ textBy image (walk image)
+  unfolding textBy linesOf linesBy
+  measured-pieces = rw (told .blocks-so, told .so)
+
+  pub measured-lines : length (linesOf image) ≡ bytes
+  unfolding linesOf linesBy
+  measured-lines = rw (told .so) (sym (told .bytes-so))
+
+  pub measured-length : length (textBy image (walk image)) ≡ bytes + length (decimal blocks) + 27
+  measured-length = sym (ap length measured-pieces) ∙ simp length-append (omega (arith, measured-lines))
+
+pub measured-broken : (image : List ℕ) (e : Error) → measuredOf image ≡ Broken e → textBy [] (broken e) ≡ textBy image (walk image)
+unfolding measuredOf measuredBy textBy
+measured-broken image e m = go (walk image) m
+  where
+    go : (w : Walk) → measuredBy image w ≡ Broken e → textBy [] (broken e) ≡ textBy image w
+    go (covered ps) q = clash (cc)
+    go (broken x) q = let z : x ≡ e = cc in rw z

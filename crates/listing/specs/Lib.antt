@@ -1,0 +1,4 @@
+pub mod Text
+pub mod Listed
+pub mod Parts
+pub mod Examples
