@@ -1,0 +1,145 @@
+-- The turns of the loops that decode, and that test the spelling: at the place i of the stored bytes.
+use Prim.Native.Nat.{ℕ, _+_, _-_, _%_, _≤_, _<_}
+use mathlib.Core.Path.{_≡_, sym, ap, _∙_, refl}
+use mathlib.Core.List.{List, [], _∷_}
+use mathlib.Core.Logic.{_≢_, _⊎_, inl, inr}
+use mathlib.Core.Bool.{true, false}
+use native.Mathlib.Omega.{arith}
+use lib.ListN.{length, getD, set, drop, replicate, drop-of-length-le}
+use lib.Dec.{eqb}
+use borrow.Author.Tests.{eqb-true, eqb-false}
+use Rattle.lists.specs.Pasted.{pasted}
+use Rattle.lists.proofs.Grown.{Grown, grown-none, grown-as, grown-same, grown-piece, grown-byte, grown-all}
+use Rattle.lists.proofs.Tests.{split}
+use Rattle.values.specs.declared.Written.the-variants.{Length, NoRoom}
+use Rattle.values.specs.Value.{runByte, run, decode, writtenOf, spelledFrom, spelled}
+use Rattle.values.proofs.ListLaws.{grown-left, drop-next}
+use Rattle.values.proofs.DecodeLaws.{length-run, decode-end, decode-one, decode-two, decode-stop, length-one, length-two, spelled-plain, spelled-escape, empty-spelled}
+use Rattle.values.proofs.WrittenLaws.{written-not, count-fits}
+
+-- ---- the loop that counts: n bytes of the value, so far no more than the room
+
+pub record Measured (a : List ℕ) (room i n : ℕ) : Type 0 where
+  pub within : n ≤ room
+  pub sum : n + length (decode (drop i a)) ≡ length (decode a)
+
+pub measured-none : (a : List ℕ) (room : ℕ) → Measured a room 0 0
+measured-none a room = record { within = omega arith; sum = omega arith }
+
+module _ {a : List ℕ} {room i n : ℕ} (s : Measured a room i n) where
+  pub measured-run : i + 1 < length a → getD a i 0 ≡ 255 → getD a (i + 1) 0 % 128 ≤ room - n → Measured a room (i + 1 + 1) (n + getD a (i + 1) 0 % 128)
+  measured-run h e k = record { within = omega (arith, s .within); sum = omega (arith, s .sum, length-two a i h e) }
+
+  pub measured-long : i + 1 < length a → getD a i 0 ≡ 255 → room - n < getD a (i + 1) 0 % 128 → NoRoom ≡ writtenOf (decode a) room
+  measured-long h e k = sym (written-not (decode a) room (omega (arith, s .within, s .sum, length-two a i h e)))
+
+  pub measured-stop : i < length a → length a ≤ i + 1 → getD a i 0 ≡ 255 → Measured a room (i + 1) n
+  measured-stop h k e = record { within = s .within; sum = omega (arith, s .sum, ap length (decode-stop a i h k e)) }
+
+  pub measured-one : i < length a → getD a i 0 ≢ 255 → n < room → Measured a room (i + 1) (n + 1)
+  measured-one h e k = record { within = omega arith; sum = omega (arith, s .sum, length-one a i h e) }
+
+  pub measured-full : i < length a → getD a i 0 ≢ 255 → room ≤ n → NoRoom ≡ writtenOf (decode a) room
+  measured-full h e k = sym (written-not (decode a) room (omega (arith, s .sum, length-one a i h e)))
+
+  pub measured-all : length a ≤ i → Length n ≡ writtenOf (decode a) room
+  measured-all h = count-fits (decode a) room n (omega (arith, s .sum, ap length (decode-end a i h))) (s .within)
+
+-- ---- the loop that writes: the value's first o bytes are in the buffer, which was d and is b
+pub record Decoding (a d : List ℕ) (i o : ℕ) (b : List ℕ) : Type 0 where
+  pub grown : Grown (decode a) d 0 o (decode (drop i a)) b
+  pub fits : length (decode a) ≤ length d
+
+pub decoding-none : (a d : List ℕ) → length (decode a) ≤ length d → Decoding a d 0 0 d
+decoding-none a d h = record { grown = grown-none (decode a) d 0 (omega arith); fits = h }
+
+run-as : (o c x : ℕ) → x ≡ runByte c → replicate (o + c % 128 - o) x ≡ run c
+unfolding run
+run-as o c x e =
+    let n : o + c % 128 - o ≡ c % 128 = omega arith in
+    rw (n, e)
+
+module _ {a d : List ℕ} {i o : ℕ} {b : List ℕ} (s : Decoding a d i o b) where
+  pub decoding-same : length b ≡ length d
+  decoding-same = grown-same (s .grown)
+
+  left-fits : o + length (decode (drop i a)) ≤ length d
+  left-fits = grown-left (s .grown) (omega (arith, s .fits))
+
+  pub run-room : i + 1 < length a → getD a i 0 ≡ 255 → o + getD a (i + 1) 0 % 128 ≤ length b
+  run-room h e = omega (arith, decoding-same, left-fits, length-two a i h e)
+
+  pub run-turn : i + 1 < length a → getD a i 0 ≡ 255 → {x : ℕ} {b′ : List ℕ} → x ≡ runByte (getD a (i + 1) 0)
+      → b′ ≡ pasted b o (replicate (o + getD a (i + 1) 0 % 128 - o) x) → Decoding a d (i + 1 + 1) (o + getD a (i + 1) 0 % 128) b′
+  run-turn h e {x} q f = record {
+    grown =
+        grown-piece (s .grown) (run (getD a (i + 1) 0)) (decode (drop (i + 1 + 1) a)) (decode-two a i h e)
+        (omega (arith, run-room h e, decoding-same, length-run (getD a (i + 1) 0))) (ap (λ (n : ℕ). o + n) (sym (length-run (getD a (i + 1) 0))))
+        (f ∙ ap (pasted b o) (run-as o (getD a (i + 1) 0) x q));
+    fits = s .fits;
+  }
+
+  pub stop-turn : i < length a → length a ≤ i + 1 → getD a i 0 ≡ 255 → Decoding a d (i + 1) o b
+  stop-turn h k e = record { grown = grown-as (s .grown) (decode-stop a i h k e); fits = s .fits }
+
+  pub plain-room : i < length a → getD a i 0 ≢ 255 → o < length b
+  plain-room h e = omega (arith, decoding-same, left-fits, ap length (decode-one a i h e))
+
+  pub plain-turn : i < length a → getD a i 0 ≢ 255 → Decoding a d (i + 1) (o + 1) (set b o (getD a i 0))
+  plain-turn h e = record {
+    grown = grown-byte (s .grown) (getD a i 0) (decode (drop (i + 1) a)) (decode-one a i h e) (omega (arith, plain-room h e, decoding-same));
+    fits = s .fits;
+  }
+
+  pub decoding-all : length a ≤ i → b ≡ pasted d 0 (decode a)
+  decoding-all h = grown-all (s .grown) (decode-end a i h)
+
+-- ---- the loop that tests the spelling
+
+pub record Spelling (s : List ℕ) (i : ℕ) : Type 0 where
+  pub left : spelled s ≡ spelled (drop i s)
+
+pub spelling-none : (s : List ℕ) → Spelling s 0
+spelling-none s = record { left = refl }
+
+spelled-zero : (s : List ℕ) → spelled (0 ∷ s) ≡ false
+unfolding spelled spelledFrom
+spelled-zero s = refl
+
+spelled-cut : spelled (255 ∷ []) ≡ false
+unfolding spelled spelledFrom
+spelled-cut = refl
+
+spelled-bad : (c : ℕ) (s : List ℕ) → (c ≡ 0) ⊎ (c ≡ 128) → spelled (255 ∷ c ∷ s) ≡ false
+unfolding spelled spelledFrom
+spelled-bad c s (inl e) = rw e
+spelled-bad c s (inr e) = rw e
+
+module _ {s : List ℕ} {i : ℕ} (p : Spelling s i) where
+  here : i < length s → {x : ℕ} → getD s i 0 ≡ x → spelled s ≡ spelled (x ∷ drop (i + 1) s)
+  here h e = p .left ∙ ap spelled (drop-next s i h) ∙ ap (λ (y : ℕ). spelled (y ∷ drop (i + 1) s)) e
+
+  pub spelling-zero : i < length s → getD s i 0 ≡ 0 → false ≡ spelled s
+  spelling-zero h e = sym (here h e ∙ spelled-zero (drop (i + 1) s))
+
+  pub spelling-cut : i < length s → getD s i 0 ≡ 255 → length s ≤ i + 1 → false ≡ spelled s
+  spelling-cut h e k = sym (here h e ∙ ap (λ (r : List ℕ). spelled (255 ∷ r)) (drop-of-length-le s k) ∙ spelled-cut)
+
+  two : i + 1 < length s → getD s i 0 ≡ 255 → spelled s ≡ spelled (255 ∷ getD s (i + 1) 0 ∷ drop (i + 1 + 1) s)
+  two h e = here (omega arith) e ∙ ap (λ (r : List ℕ). spelled (255 ∷ r)) (drop-next s (i + 1) h)
+
+  pub spelling-bad : i + 1 < length s → getD s i 0 ≡ 255 → getD s (i + 1) 0 < 256 → getD s (i + 1) 0 % 128 ≡ 0 → false ≡ spelled s
+  spelling-bad h e l z = sym (two h e ∙ spelled-bad (getD s (i + 1) 0) (drop (i + 1 + 1) s) (cases (getD s (i + 1) 0) l z))
+    where
+      cases : (c : ℕ) → c < 256 → c % 128 ≡ 0 → (c ≡ 0) ⊎ (c ≡ 128)
+      cases c l z = split (eqb c 0) (λ t. inl (eqb-true c 0 t)) (λ t. inr (omega (arith, eqb-false c 0 t)))
+
+  pub spelling-run : i + 1 < length s → getD s i 0 ≡ 255 → getD s (i + 1) 0 % 128 ≢ 0 → Spelling s (i + 1 + 1)
+  spelling-run h e z =
+      record { left = two h e ∙ spelled-escape (getD s (i + 1) 0) (drop (i + 1 + 1) s) (λ q. omega arith) (λ q. omega arith) }
+
+  pub spelling-plain : i < length s → getD s i 0 ≢ 0 → getD s i 0 ≢ 255 → Spelling s (i + 1)
+  spelling-plain h z e = record { left = here h refl ∙ spelled-plain (getD s i 0) (drop (i + 1) s) z e }
+
+  pub spelling-all : length s ≤ i → true ≡ spelled s
+  spelling-all h = sym (p .left ∙ ap spelled (drop-of-length-le s h) ∙ empty-spelled)

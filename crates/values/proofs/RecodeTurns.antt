@@ -1,0 +1,188 @@
+-- The turns of the loop that makes a stored value canonical in place: at the place i of the area.
+use Prim.Native.Nat.{ℕ, _+_, _-_, _%_, _≤_, _<_}
+use mathlib.Core.Path.{_≡_, refl, sym, ap, _∙_, subst}
+use mathlib.Core.Bool.{true, false}
+use mathlib.Core.List.{List, [], _∷_, _++_, append-nil}
+use mathlib.Core.Logic.{_≢_}
+use native.Mathlib.Omega.{arith}
+use lib.ListN.{length, set, getD}
+use lib.Dec.{leb}
+use borrow.Author.Tests.{ne-eqb, leb-true, leb-false}
+use Rattle.lists.specs.Pasted.{pasted}
+use Rattle.lists.proofs.Tests.{split}
+use Rattle.lists.proofs.Grown.{Grown, grown-none, grown-same, grown-after, grown-as, grown-piece, grown-byte, grown-all, grown-end}
+use Rattle.values.specs.Value.{runByte, run, decode, spelled, mark, runBytes, escaped, encodeFrom, encode, part, recoded}
+use Rattle.values.proofs.DecodeLaws.{decode-none, decode-plain, decode-escape, plain-spelled, escape-spelled, cut-spelled, PlainSpelled, EscapeSpelled}
+use Rattle.values.proofs.EncodeLaws.{length-run-bytes, encode-none, encode-plain}
+use Rattle.values.proofs.RecodeLaws.{part-next, part-none, Recodable, run-same, run-other, encode-full}
+
+-- l is the area at the start, b what it is now. The canonical form is written up to o, a run of n times y is open, and i is the next byte to read.
+
+pub record Recoding (l : List ℕ) (from to at : ℕ) (b : List ℕ) (i o y n : ℕ) : Type 0 where
+  pub grown : Grown (recoded l from to) l at o (encodeFrom y n (decode (part l i to))) b
+  pub valid : spelled (part l i to) ≡ true
+  pub behind : o + length (runBytes y n) ≤ i
+  pub few : n ≤ 127
+  pub not-past : i ≤ to
+  pub inside : to ≤ length l
+
+pub recoding-none : (l : List ℕ) (from to at : ℕ) → Recodable l from to at → Recoding l from to at l from at 0 0
+unfolding recoded encode
+recoding-none l from to at r = record {
+  grown = grown-none (recoded l from to) l at (omega (arith, r .before, r .order, r .inside));
+  valid = r .valid;
+  behind = omega (arith, length-run-bytes 0 0, r .before);
+  few = omega arith;
+  not-past = r .order;
+  inside = r .inside;
+}
+
+module _ {l : List ℕ} {from to at : ℕ} {b : List ℕ} {i o y n : ℕ} (s : Recoding l from to at b i o y n) where
+  pub recoding-same : length b ≡ length l
+  recoding-same = grown-same (s .grown)
+
+  pub flush-fits : o + length (runBytes y n) ≤ length b
+  flush-fits = omega (arith, s .behind, s .not-past, s .inside, recoding-same)
+
+  here-now : getD b i 0 ≡ getD l i 0
+  here-now = grown-after (s .grown) i (omega (arith, s .behind))
+
+  next-now : getD b (i + 1) 0 ≡ getD l (i + 1) 0
+  next-now = grown-after (s .grown) (i + 1) (omega (arith, s .behind))
+
+  module _ (h : i < to) where
+    first : part l i to ≡ getD l i 0 ∷ part l (i + 1) to
+    first = part-next l i to h (s .inside)
+
+    module _ (e : getD b i 0 ≡ 255) where
+      e′ : getD l i 0 ≡ 255
+      e′ = sym here-now ∙ e
+
+      begun : spelled (255 ∷ part l (i + 1) to) ≡ true
+      begun = ap (λ (x : ℕ). spelled (x ∷ part l (i + 1) to)) (sym e′) ∙ ap spelled (sym first) ∙ s .valid
+
+      pub two-in : i + 1 < to
+      two-in =
+          split (leb to (i + 1))
+          (λ t. absurd (cut-spelled (ap (λ (r : List ℕ). spelled (255 ∷ r)) (sym (part-none l (i + 1) to (leb-true to (i + 1) t))) ∙ begun)))
+          (λ t. leb-false to (i + 1) t)
+
+      second : part l (i + 1) to ≡ getD l (i + 1) 0 ∷ part l (i + 1 + 1) to
+      second = part-next l (i + 1) to two-in (s .inside)
+
+      shown : EscapeSpelled (getD l (i + 1) 0) (part l (i + 1 + 1) to)
+      shown = escape-spelled (getD l (i + 1) 0) (part l (i + 1 + 1) to) (ap (λ (r : List ℕ). spelled (255 ∷ r)) (sym second) ∙ begun)
+
+      to-come : decode (part l i to) ≡ run (getD l (i + 1) 0) ++ decode (part l (i + 1 + 1) to)
+      to-come =
+          ap decode (first ∙ ap (λ (r : List ℕ). getD l i 0 ∷ r) second ∙ ap (λ (x : ℕ). x ∷ getD l (i + 1) 0 ∷ part l (i + 1 + 1) to) e′)
+          ∙ decode-escape (getD l (i + 1) 0) (part l (i + 1 + 1) to)
+
+      same-count : getD b (i + 1) 0 % 128 ≡ getD l (i + 1) 0 % 128
+      same-count = ap (λ (c : ℕ). c % 128) next-now
+
+      some-count : getD b (i + 1) 0 < 256 → getD l (i + 1) 0 % 128 ≢ 0
+      some-count k z = omega (arith, next-now, shown .some, shown .other)
+
+      module _ {x : ℕ} (p : x ≡ runByte (getD b (i + 1) 0)) where
+        same-byte : x ≡ runByte (getD l (i + 1) 0)
+        same-byte = p ∙ ap runByte next-now
+
+        module _ (q : x ≡ y) where
+          longer : encodeFrom y n (decode (part l i to)) ≡ encodeFrom y (n + getD b (i + 1) 0 % 128) (decode (part l (i + 1 + 1) to))
+          longer =
+              ap (encodeFrom y n) to-come ∙ run-same y n (getD l (i + 1) 0) (decode (part l (i + 1 + 1) to)) (sym same-byte ∙ q)
+              ∙ ap (λ (m : ℕ). encodeFrom y (n + m) (decode (part l (i + 1 + 1) to))) (sym same-count)
+
+          pub same-turn : n + getD b (i + 1) 0 % 128 ≤ 127 → Recoding l from to at b (i + 1 + 1) o y (n + getD b (i + 1) 0 % 128)
+          same-turn k = record {
+            grown = grown-as (s .grown) longer;
+            valid = shown .left;
+            behind = omega (arith, s .behind, length-run-bytes y n, length-run-bytes y (n + getD b (i + 1) 0 % 128));
+            few = k;
+            not-past = omega (arith, two-in);
+            inside = s .inside;
+          }
+
+          pub full-room : 127 < n + getD b (i + 1) 0 % 128 → o + 2 ≤ length b
+          full-room k = omega (arith, flush-fits, length-run-bytes y n)
+
+          pub full-turn : 127 < n + getD b (i + 1) 0 % 128 → {m : ℕ} {b′ : List ℕ} → m ≡ mark y → b′ ≡ pasted b o (255 ∷ (m + 127) ∷ [])
+              → Recoding l from to at b′ (i + 1 + 1) (o + 2) y (n + getD b (i + 1) 0 % 128 - 127)
+          full-turn k f u =
+              let j : ℕ = n + getD b (i + 1) 0 % 128 - 127 in
+              let t : n + getD b (i + 1) 0 % 128 ≡ 127 + j = omega arith in
+              record {
+                grown =
+                    grown-piece (s .grown) (255 ∷ (mark y + 127) ∷ []) (encodeFrom y j (decode (part l (i + 1 + 1) to)))
+                    (longer ∙ ap (λ (m : ℕ). encodeFrom y m (decode (part l (i + 1 + 1) to))) t ∙ encode-full y j (decode (part l (i + 1 + 1) to)))
+                    (omega (arith, full-room k, recoding-same)) refl (u ∙ ap (λ (m : ℕ). pasted b o (255 ∷ (m + 127) ∷ [])) f);
+                valid = shown .left;
+                behind = omega (arith, s .behind, s .few, length-run-bytes y n, length-run-bytes y j);
+                few = omega (arith, s .few);
+                not-past = omega (arith, two-in);
+                inside = s .inside;
+              }
+
+        pub other-turn : getD b (i + 1) 0 < 256 → x ≢ y → {o′ : ℕ} {b′ : List ℕ} → o′ ≡ o + length (runBytes y n) → b′ ≡ pasted b o (runBytes y n)
+            → Recoding l from to at b′ (i + 1 + 1) o′ x (getD b (i + 1) 0 % 128)
+        other-turn byte q f u =
+            let k : getD b (i + 1) 0 % 128 ≡ getD l (i + 1) 0 % 128 = same-count in
+            record {
+              grown =
+                  grown-piece (s .grown) (runBytes y n) (encodeFrom x (getD b (i + 1) 0 % 128) (decode (part l (i + 1 + 1) to)))
+                  (ap (encodeFrom y n) to-come
+                  ∙ run-other y n (getD l (i + 1) 0) (decode (part l (i + 1 + 1) to)) (λ z. q (same-byte ∙ z)) (some-count byte)
+                  ∙ ap (λ (m : ℕ). runBytes y n ++ encodeFrom (runByte (getD l (i + 1) 0)) m (decode (part l (i + 1 + 1) to))) (sym k)
+                  ∙ ap (λ (z : ℕ). runBytes y n ++ encodeFrom z (getD b (i + 1) 0 % 128) (decode (part l (i + 1 + 1) to))) (sym same-byte))
+                  (omega (arith, flush-fits, recoding-same)) f u;
+              valid = shown .left;
+              behind = omega (arith, s .behind, length-run-bytes x (getD b (i + 1) 0 % 128));
+              few = omega arith;
+              not-past = omega (arith, two-in);
+              inside = s .inside;
+            }
+
+    module _ (e : getD b i 0 ≢ 255) {o′ : ℕ} {b′ : List ℕ} (f : o′ ≡ o + length (runBytes y n)) (u : b′ ≡ pasted b o (runBytes y n)) where
+      plain-shown : PlainSpelled (getD l i 0) (part l (i + 1) to)
+      plain-shown = plain-spelled (getD l i 0) (part l (i + 1) to) (λ z. e (here-now ∙ z)) (ap spelled (sym first) ∙ s .valid)
+
+      not-escaped : escaped (getD l i 0) ≡ false
+      not-escaped = cc (ne-eqb (getD l i 0) 0 (plain-shown .some), ne-eqb (getD l i 0) 255 (λ z. e (here-now ∙ z)))
+
+      flushed : Grown (recoded l from to) l at o′ (getD l i 0 ∷ encodeFrom 0 0 (decode (part l (i + 1) to))) b′
+      flushed =
+          grown-piece (s .grown) (runBytes y n) (getD l i 0 ∷ encodeFrom 0 0 (decode (part l (i + 1) to)))
+          (ap (λ (r : List ℕ). encodeFrom y n (decode r)) first
+          ∙ ap (encodeFrom y n) (decode-plain (getD l i 0) (part l (i + 1) to) (λ z. e (here-now ∙ z)))
+          ∙ encode-plain y n (getD l i 0) (decode (part l (i + 1) to)) not-escaped)
+          (omega (arith, flush-fits, recoding-same)) f u
+
+      pub plain-room : o′ + 1 ≤ length b′
+      plain-room = omega (arith, grown-same flushed, s .behind, s .inside)
+
+      pub plain-turn : Recoding l from to at (set b′ o′ (getD b i 0)) (i + 1) (o′ + 1) 0 0
+      plain-turn = record {
+        grown =
+            subst (λ (x : ℕ). Grown (recoded l from to) l at (o′ + 1) (encodeFrom 0 0 (decode (part l (i + 1) to))) (set b′ o′ x)) (sym here-now)
+            (grown-byte flushed (getD l i 0) (encodeFrom 0 0 (decode (part l (i + 1) to))) refl (omega (arith, plain-room, grown-same flushed)));
+        valid = plain-shown .left;
+        behind = omega (arith, s .behind, length-run-bytes 0 0);
+        few = omega arith;
+        not-past = omega arith;
+        inside = s .inside;
+      }
+
+  module _ (h : to ≤ i) {o′ : ℕ} {b′ : List ℕ} (f : o′ ≡ o + length (runBytes y n)) (u : b′ ≡ pasted b o (runBytes y n)) where
+    ended : Grown (recoded l from to) l at o′ [] b′
+    ended =
+        grown-piece (s .grown) (runBytes y n) []
+        (ap (λ (r : List ℕ). encodeFrom y n (decode r)) (part-none l i to h) ∙ ap (encodeFrom y n) decode-none ∙ encode-none y n
+        ∙ sym (append-nil (runBytes y n)))
+        (omega (arith, flush-fits, recoding-same)) f u
+
+    pub recoding-place : o′ ≡ at + length (recoded l from to)
+    recoding-place = grown-end ended refl
+
+    pub recoding-all : b′ ≡ pasted l at (recoded l from to)
+    recoding-all = grown-all ended refl

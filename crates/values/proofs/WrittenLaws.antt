@@ -1,0 +1,53 @@
+-- The laws of `writtenOf` and `writtenIn`: bytes that fit, and bytes that do not.
+use Prim.Native.Nat.{ℕ, _≤_, _<_}
+use mathlib.Core.Path.{_≡_, sym, ap, _∙_}
+use mathlib.Core.List.{List}
+use native.Mathlib.Omega.{arith}
+use lib.ListN.{length}
+use lib.Dec.{leb}
+use borrow.Author.Tests.{le-leb, lt-leb, leb-true, leb-false}
+use Rattle.lists.specs.Pasted.{pasted}
+use Rattle.lists.proofs.Tests.{split, clash}
+use Rattle.values.specs.declared.Written.the-variants.{Length, NoRoom}
+use Rattle.values.specs.Value.{writtenOf, writtenIn}
+
+module _ (l : List ℕ) (room : ℕ) where
+  pub written-fits : length l ≤ room → writtenOf l room ≡ Length (length l)
+  unfolding writtenOf
+  written-fits h = rw (le-leb (length l) room h)
+
+  pub written-not : room < length l → writtenOf l room ≡ NoRoom
+  unfolding writtenOf
+  written-not h = rw (lt-leb (length l) room h)
+
+  -- what the answers tell
+  pub length-told : (n : ℕ) → writtenOf l room ≡ Length n → (n ≡ length l) × (n ≤ room)
+  length-told n e =
+      split (leb (length l) room)
+      (λ t. let h = leb-true (length l) room t in
+      let q : Length (length l) ≡ Length n = sym (written-fits h) ∙ e in
+      let k : length l ≡ n = cc in
+      (sym k, omega arith))
+      (λ t. let q : NoRoom ≡ Length n = sym (written-not (leb-false (length l) room t)) ∙ e in clash (cc))
+
+  pub fits-told : (n : ℕ) → writtenOf l room ≡ Length n → length l ≤ room
+  fits-told n e = let t = length-told n e in omega arith
+
+  pub no-room-told : writtenOf l room ≡ NoRoom → room < length l
+  no-room-told e =
+      split (leb (length l) room)
+      (λ t. let q : Length (length l) ≡ NoRoom = sym (written-fits (leb-true (length l) room t)) ∙ e in clash (cc))
+      (λ t. leb-false (length l) room t)
+
+module _ (l buffer : List ℕ) where
+  pub pasted-in : length l ≤ length buffer → writtenIn l buffer ≡ pasted buffer 0 l
+  unfolding writtenIn
+  pasted-in h = rw (le-leb (length l) (length buffer) h)
+
+  pub kept-in : length buffer < length l → writtenIn l buffer ≡ buffer
+  unfolding writtenIn
+  kept-in h = rw (lt-leb (length l) (length buffer) h)
+
+-- the same of a count
+pub count-fits : (l : List ℕ) (room n : ℕ) → n ≡ length l → n ≤ room → Length n ≡ writtenOf l room
+count-fits l room n e h = ap Length e ∙ sym (written-fits l room (omega arith))

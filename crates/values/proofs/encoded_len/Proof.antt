@@ -1,0 +1,92 @@
+-- `values::encoded_len` meets its contract. The loop's invariant: n bytes, and the canonical form of the bytes from i on, are the whole length.
+use Prim.Native.Nat.{_-_}
+use mathlib.Core.Path.{sym, _∙_}
+use native.Mathlib.Omega.{arith}
+use lib.ListN.{length}
+use Rattle.values.proofs.EncodeTurns.{run-ahead, run-inside, Counted, counted-none, counted-bound, counted-plain, counted-run, counted-all}
+use borrow.Author.Needs.{needs}
+use Rattle.values.proofs.encoded_len.Statement.{statement}
+use Rattle.values.proofs.encoded_len.Tie as tie
+
+abbrev Inv-loop : tie.InvT-loop
+Inv-loop value i₀ n₀ i n = Counted value i n
+
+abbrev μ-loop : tie.MeasureT-loop
+μ-loop value i₀ n₀ i n = length value - i
+
+loop-holds : tie.Need-loop-holds Inv-loop μ-loop
+loop-holds c = counted-none _
+
+shared-slice-read-x : tie.Need-shared-slice-read-x Inv-loop μ-loop
+shared-slice-read-x c = search needs
+
+is-escaped-requires : tie.Need-is-escaped-requires Inv-loop μ-loop
+is-escaped-requires c κs = search needs
+
+run-end-requires : tie.Need-run-end-requires Inv-loop μ-loop
+run-end-requires c κs = search needs
+
+sub-run-len : tie.Need-sub-run-len Inv-loop μ-loop
+sub-run-len c =
+    let l = c .before .before .before .before .before in
+    let v = l .before .before .args .value .now in
+    omega (arith, run-ahead v (l .loop .i) (search needs) (c .run-end .result) (c .run-end .ensures))
+
+run-len-requires : tie.Need-run-len-requires Inv-loop μ-loop
+run-len-requires c κs = search needs
+
+add-n : tie.Need-add-n Inv-loop μ-loop
+add-n c =
+    let l = c .before .before .before .before .before .before in
+    let t = sym (c .before .before .before .is-escaped .ensures) ∙ c .before .before .if1 .taken in
+    omega (arith, counted-bound (counted-run (l .loop .inv) (search needs) t (c .before .run-end .ensures) (c .run-len .ensures)))
+
+loop-less : tie.Need-loop-less Inv-loop μ-loop
+loop-less c =
+    let l = c .before .before .before .before .before .before in
+    let v = l .before .before .args .value .now in
+    let e = c .before .run-end in
+    omega (arith, run-ahead v (l .loop .i) (search needs) (e .result) (e .ensures), run-inside v (l .loop .i) (search needs) (e .result) (e .ensures))
+
+loop-again : tie.Need-loop-again Inv-loop μ-loop
+loop-again c =
+    let l = c .before .before .before .before .before .before in
+    let t = sym (c .before .before .before .is-escaped .ensures) ∙ c .before .before .if1 .taken in
+    counted-run (l .loop .inv) (search needs) t (c .before .run-end .ensures) (c .run-len .ensures)
+
+add-n-2 : tie.Need-add-n-2 Inv-loop μ-loop
+add-n-2 c =
+    omega (arith, counted-bound (counted-plain (c .before .before .before .before .loop .inv) (search needs) (sym (c .before .is-escaped .ensures) ∙ c .if1 .left)))
+
+add-i : tie.Need-add-i Inv-loop μ-loop
+add-i c = search needs
+
+loop-less-2 : tie.Need-loop-less-2 Inv-loop μ-loop
+loop-less-2 c = search needs
+
+loop-again-2 : tie.Need-loop-again-2 Inv-loop μ-loop
+loop-again-2 c = counted-plain (c .before .before .before .before .loop .inv) (search needs) (sym (c .before .is-escaped .ensures) ∙ c .if1 .left)
+
+returns : tie.Need-returns Inv-loop μ-loop
+returns c = counted-all (c .before .loop .inv) (search needs)
+
+pub encoded-len-spec : {M : Type 1} → statement M
+encoded-len-spec =
+    tie.close
+    (tie.spec
+    Inv-loop
+    μ-loop
+    loop-holds
+    shared-slice-read-x
+    is-escaped-requires
+    run-end-requires
+    sub-run-len
+    run-len-requires
+    add-n
+    loop-less
+    loop-again
+    add-n-2
+    add-i
+    loop-less-2
+    loop-again-2
+    returns)

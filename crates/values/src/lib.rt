@@ -1,0 +1,316 @@
+// Values: stored bytes decoded, and the canonical form of a value made.
+ghost use mathlib.Core.Path.{_≡_};
+ghost use mathlib.Core.List.{[], _∷_};
+ghost use Prim.Native.Nat.{_+_, _-_, _≤_};
+ghost use lib.ListN.{length, drop, replicate};
+ghost use Rattle.lists.specs.Pasted.{pasted};
+ghost use mathlib.Core.Bool.{true};
+ghost use Rattle.values.specs.Value.{runByte, decode, spelled, leading, escaped, mark, runBytes, encode, writtenOf, writtenIn};
+ghost use Rattle.values.specs.Value.{recodable, recoded, recodedOf, recodedIn};
+
+// Bytes written to a buffer: how many, or none for want of room.
+pub enum Written {
+    Length(usize),
+    NoRoom,
+}
+
+// The byte that an escape repeats, by its second byte.
+fn run_byte(c: u8) -> u8
+    ensures { λ r. ⌜ r ≡ runByte c ⌝ }
+{
+    if c < 128 { 0 } else { 255 }
+}
+
+// Writes a run of b over the bytes from `from` up to `to`.
+fn fill(buffer: &mut [u8], from: usize, to: usize, b: u8)
+    requires { ⌜ (from ≤ to) × (to ≤ length (now buffer)) ⌝ }
+    ensures { λ _. ⌜ now (buffer .exit) ≡ pasted (now (buffer .entry)) from (replicate (to - from) b) ⌝ }
+{
+    let mut i = from;
+    while i < to {
+        buffer[i] = b;
+        i += 1;
+    }
+}
+
+// The length of the value that is stored so, if that is at most `room`.
+pub fn decoded_len(stored: &[u8], room: usize) -> Written
+    ensures { λ r. ⌜ r ≡ writtenOf (decode (now (stored .entry))) room ⌝ }
+{
+    let mut i = 0;
+    let mut n: usize = 0;
+    while i < stored.len() {
+        let b = stored[i];
+        i += 1;
+        if b == 255 {
+            if i < stored.len() {
+                let k = (stored[i] % 128) as usize;
+                if room - n < k {
+                    return Written::NoRoom;
+                }
+                n += k;
+                i += 1;
+            }
+        } else {
+            if room <= n {
+                return Written::NoRoom;
+            }
+            n += 1;
+        }
+    }
+    Written::Length(n)
+}
+
+// Writes the value that is stored so at the start of the buffer, which has room for it.
+fn decode_to(stored: &[u8], buffer: &mut [u8])
+    requires { ⌜ length (decode (now stored)) ≤ length (now buffer) ⌝ }
+    ensures { λ _. ⌜ now (buffer .exit) ≡ pasted (now (buffer .entry)) 0 (decode (now (stored .entry))) ⌝ }
+{
+    let mut i = 0;
+    let mut o: usize = 0;
+    while i < stored.len() {
+        let b = stored[i];
+        i += 1;
+        if b == 255 {
+            if i < stored.len() {
+                let c = stored[i];
+                let e = o + (c % 128) as usize;
+                fill(buffer, o, e, run_byte(c));
+                o = e;
+                i += 1;
+            }
+        } else {
+            buffer[o] = b;
+            o += 1;
+        }
+    }
+}
+
+// Writes the value that is stored so at the start of the buffer, if there is room for all of it.
+pub fn decode(stored: &[u8], buffer: &mut [u8]) -> Written
+    ensures { λ r. ⌜ r ≡ writtenOf (decode (now (stored .entry))) (length (now (buffer .entry))) ⌝ }
+    ensures { λ _. ⌜ now (buffer .exit) ≡ writtenIn (decode (now (stored .entry))) (now (buffer .entry)) ⌝ }
+{
+    match decoded_len(stored, buffer.len()) {
+        Written::Length(n) => {
+            decode_to(stored, buffer);
+            Written::Length(n)
+        }
+        Written::NoRoom => Written::NoRoom,
+    }
+}
+
+// Whether stored bytes stand for a value.
+fn is_spelled(stored: &[u8]) -> bool
+    ensures { λ r. ⌜ r ≡ spelled (now (stored .entry)) ⌝ }
+{
+    let mut i = 0;
+    while i < stored.len() {
+        let b = stored[i];
+        i += 1;
+        if b == 0 {
+            return false;
+        }
+        if b == 255 {
+            if stored.len() <= i {
+                return false;
+            }
+            if stored[i] % 128 == 0 {
+                return false;
+            }
+            i += 1;
+        }
+    }
+    true
+}
+
+// The top bit of an escape's second byte, by the byte that it repeats.
+fn mark_of(b: u8) -> u8
+    ensures { λ r. ⌜ (r ≡ mark b) × (r ≤ 128) ⌝ }
+{
+    if b == 0 { 0 } else { 128 }
+}
+
+// Whether a byte does not stand for itself.
+fn is_escaped(x: u8) -> bool
+    ensures { λ r. ⌜ r ≡ escaped x ⌝ }
+{
+    if x == 0 {
+        return true;
+    }
+    x == 255
+}
+
+// The place after the longest run of b that starts at `from`.
+fn run_end(value: &[u8], from: usize, b: u8) -> usize
+    ensures { λ r. ⌜ r ≡ from + leading b (drop from (now (value .entry))) ⌝ }
+{
+    let mut e = from;
+    while e < value.len() {
+        if value[e] != b {
+            return e;
+        }
+        e += 1;
+    }
+    e
+}
+
+// The length of a run's escapes.
+fn run_len(n: usize) -> usize
+    ensures { λ r. ⌜ r ≡ length (runBytes 0 n) ⌝ }
+{
+    let q = n / 127;
+    if n % 127 == 0 {
+        return 2 * q;
+    }
+    2 * q + 2
+}
+
+// Writes one escape, by its second byte.
+fn put_escape(buffer: &mut [u8], at: usize, c: u8)
+    requires { ⌜ at + 2 ≤ length (now buffer) ⌝ }
+    ensures { λ _. ⌜ now (buffer .exit) ≡ pasted (now (buffer .entry)) at (255 ∷ c ∷ []) ⌝ }
+{
+    buffer[at] = 255;
+    buffer[at + 1] = c;
+}
+
+// Writes the escapes of a run of n times b, and answers the place after them.
+fn put_run(buffer: &mut [u8], at: usize, b: u8, n: usize) -> usize
+    requires { ⌜ at + length (runBytes b n) ≤ length (now buffer) ⌝ }
+    ensures { λ r. ⌜ r ≡ at + length (runBytes b n) ⌝ }
+    ensures { λ _. ⌜ now (buffer .exit) ≡ pasted (now (buffer .entry)) at (runBytes b n) ⌝ }
+{
+    let m = mark_of(b);
+    let q = n / 127;
+    let rest = n % 127;
+    let mut k = 0;
+    let mut o = at;
+    while k < q {
+        put_escape(buffer, o, m + 127);
+        o += 2;
+        k += 1;
+    }
+    if rest == 0 {
+        return o;
+    }
+    put_escape(buffer, o, m + rest as u8);
+    o + 2
+}
+
+// The length of a value's canonical form.
+pub fn encoded_len(value: &[u8]) -> usize
+    ensures { λ r. ⌜ r ≡ length (encode (now (value .entry))) ⌝ }
+{
+    let mut i = 0;
+    let mut n: usize = 0;
+    while i < value.len() {
+        let x = value[i];
+        if is_escaped(x) {
+            let e = run_end(value, i, x);
+            n += run_len(e - i);
+            i = e;
+        } else {
+            n += 1;
+            i += 1;
+        }
+    }
+    n
+}
+
+// Writes the canonical form of a value at the start of the buffer, which has room for it.
+fn encode_to(value: &[u8], buffer: &mut [u8])
+    requires { ⌜ length (encode (now value)) ≤ length (now buffer) ⌝ }
+    ensures { λ _. ⌜ now (buffer .exit) ≡ pasted (now (buffer .entry)) 0 (encode (now (value .entry))) ⌝ }
+{
+    let mut i = 0;
+    let mut o: usize = 0;
+    while i < value.len() {
+        let x = value[i];
+        if is_escaped(x) {
+            let e = run_end(value, i, x);
+            o = put_run(buffer, o, x, e - i);
+            i = e;
+        } else {
+            buffer[o] = x;
+            o += 1;
+            i += 1;
+        }
+    }
+}
+
+// Writes the canonical form of a value at the start of the buffer, if there is room for all of it.
+pub fn encode(value: &[u8], buffer: &mut [u8]) -> Written
+    ensures { λ r. ⌜ r ≡ writtenOf (encode (now (value .entry))) (length (now (buffer .entry))) ⌝ }
+    ensures { λ _. ⌜ now (buffer .exit) ≡ writtenIn (encode (now (value .entry))) (now (buffer .entry)) ⌝ }
+{
+    let n = encoded_len(value);
+    if buffer.len() < n {
+        return Written::NoRoom;
+    }
+    encode_to(value, buffer);
+    Written::Length(n)
+}
+
+// Writes the canonical form of the value stored from `from` up to `to` at `at`, and answers the place after it.
+// A run of n times b is open: at most 127, so that a longer one is written as it is read.
+fn recode_to(area: &mut [u8], from: usize, to: usize, at: usize) -> usize
+    requires { ⌜ recodable (now area) from to at ≡ true ⌝ }
+    ensures { λ r. ⌜ r ≡ at + length (recoded (now (area .entry)) from to) ⌝ }
+    ensures { λ _. ⌜ now (area .exit) ≡ pasted (now (area .entry)) at (recoded (now (area .entry)) from to) ⌝ }
+{
+    let mut i = from;
+    let mut o = at;
+    let mut b: u8 = 0;
+    let mut n: usize = 0;
+    while i < to {
+        let x = area[i];
+        i += 1;
+        if x == 255 {
+            let c = area[i];
+            i += 1;
+            let y = run_byte(c);
+            let k = (c % 128) as usize;
+            if y != b {
+                o = put_run(area, o, b, n);
+                b = y;
+                n = k;
+            } else if n + k <= 127 {
+                n += k;
+            } else {
+                put_escape(area, o, mark_of(b) + 127);
+                o += 2;
+                n = n + k - 127;
+            }
+        } else {
+            o = put_run(area, o, b, n);
+            area[o] = x;
+            o += 1;
+            b = 0;
+            n = 0;
+        }
+    }
+    put_run(area, o, b, n)
+}
+
+// Makes the value stored from `from` up to `to` canonical, at `at`, which is not after it; answers its new length.
+// Where the places are out of order or the bytes stand for no value, nothing is changed.
+pub fn recode(area: &mut [u8], from: usize, to: usize, at: usize) -> Written
+    ensures { λ r. ⌜ r ≡ recodedOf (now (area .entry)) from to at ⌝ }
+    ensures { λ _. ⌜ now (area .exit) ≡ recodedIn (now (area .entry)) from to at ⌝ }
+{
+    if from < at {
+        return Written::NoRoom;
+    }
+    if to < from {
+        return Written::NoRoom;
+    }
+    if area.len() < to {
+        return Written::NoRoom;
+    }
+    if !is_spelled(&area[from..to]) {
+        return Written::NoRoom;
+    }
+    let e = recode_to(area, from, to, at);
+    Written::Length(e - at)
+}
