@@ -1,0 +1,6 @@
+pub mod Scan
+pub mod Area
+pub mod Edits
+pub mod Calls
+pub mod Rules
+pub mod Examples

@@ -1,0 +1,61 @@
+-- What stands where a pair would begin: a scan of a name up to its `=`, and of a value up to its 0x00.
+use Prim.Native.Nat.{ℕ, _+_}
+use mathlib.Core.Bool.{Bool, true, false, _&&_, _||_}
+use mathlib.Core.List.{List, [], _∷_}
+use lib.ListN.{length}
+use lib.Dec.{ltb, eqb}
+use Rattle.names.specs.Name.{nameByte}
+
+-- its bytes and what follows the byte that ends it; or the first byte that breaks the rule, so many bytes further on; or the area ends first
+pub data Scan : Type 0 where
+  ends : List ℕ → List ℕ → Scan
+  bad : ℕ → Scan
+  short : Scan
+
+-- one byte more in front
+abbrev pub and : ℕ → Scan → Scan
+and b (ends bs rest) = ends (b ∷ bs) rest
+and b (bad k) = bad k
+and b short = short
+
+abbrev pub pickScan : Bool → Scan → Scan → Scan
+pickScan true a b = a
+pickScan false a b = b
+
+-- k bytes of the name have been read: an `=` ends it, but not at once; any other byte is allowed and at most the 31st
+unfoldable pub scanName : ℕ → List ℕ → Scan
+scanName k [] = short
+scanName k (b ∷ bs) =
+    elim (eqb b 0x3D) [
+      | true ↦ pickScan (eqb k 0) (bad 0) (ends [] bs)
+      | false ↦ elim (nameByte b && ltb k 31) [ true ↦ and b (scanName (k + 1) bs) | false ↦ bad k ]
+    ]
+
+-- k bytes of the stored value have been read; after: the last one was an escape's 0xFF, which 0x00 and 0x80 must not follow
+unfoldable pub scanValue : Bool → ℕ → List ℕ → Scan
+scanValue after k [] = short
+scanValue true k (c ∷ bs) = elim (eqb c 0x00 || eqb c 0x80) [ true ↦ bad k | false ↦ and c (scanValue false (k + 1) bs) ]
+scanValue false k (b ∷ bs) = elim (eqb b 0x00) [ true ↦ ends [] bs | false ↦ and b (scanValue (eqb b 0xFF) (k + 1) bs) ]
+
+-- a pair: its name, its stored value and what follows its 0x00; the 0x00 that ends the pairs; or number 7, or 8 or 9 so many bytes further on
+pub data Stand : Type 0 where
+  pair : List ℕ → List ℕ → List ℕ → Stand
+  finish : Stand
+  cut : Stand
+  wrongName : ℕ → Stand
+  wrongEscape : ℕ → Stand
+
+abbrev pub onValue : List ℕ → Scan → Stand
+onValue name (ends stored rest) = pair name stored rest
+onValue name (bad k) = wrongEscape (length name + 1 + k)
+onValue name short = cut
+
+abbrev pub onName : Scan → Stand
+onName (ends name after) = onValue name (scanValue false 0 after)
+onName (bad k) = wrongName k
+onName short = cut
+
+-- what stands at the start of these bytes
+unfoldable pub standAt : List ℕ → Stand
+standAt [] = cut
+standAt (b ∷ bs) = elim (eqb b 0x00) [ true ↦ finish | false ↦ onName (scanName 0 (b ∷ bs)) ]
