@@ -1,0 +1,97 @@
+-- Every call on an image: what it answers, and the image afterwards.
+use Prim.Native.Nat.{ℕ, _+_}
+use mathlib.Core.Bool.{Bool, true, false}
+use mathlib.Core.List.{List, [], _∷_}
+use Rattle.lists.specs.Pasted.{pasted}
+use Rattle.header.specs.declared.Error.{Error}
+use Rattle.header.specs.declared.Error.the-variants.{
+  ImageLength,
+  ZeroLength,
+  PastEnd,
+  Checksum,
+  ZeroChecksum,
+  NoPartition,
+  AreaEnd,
+  StoredName,
+  Escape,
+  Repeated,
+  BadName,
+  NoVariable,
+  NoRoom,
+  ShortBuffer,
+}
+use Rattle.header.specs.Errors.{codeOf, offsetOf}
+use Rattle.partitions.specs.declared.Found.{Found}
+use Rattle.partitions.specs.declared.Found.the-variants.{At, Refused}
+use Rattle.partitions.specs.Find.{findOf, areaOf}
+use Rattle.variables.specs.Calls.{Call, lent, wellNamed, Reply, done, refused, Outcome, callArea}
+
+-- what the caller sees of a call on variables: code, offset, a length or count, and the buffer afterwards
+pub record Answer : Type 0 where
+  pub code : ℕ
+  pub offset : ℕ
+  pub amount : ℕ
+  pub buffer : List ℕ
+
+-- the offsets of the area's faults count from the image's first byte: the area begins at n
+unfoldable pub moved : ℕ → Error → Error
+moved n ImageLength = ImageLength
+moved n (ZeroLength at) = ZeroLength at
+moved n (PastEnd at) = PastEnd at
+moved n (Checksum at) = Checksum at
+moved n (ZeroChecksum at) = ZeroChecksum at
+moved n NoPartition = NoPartition
+moved n (AreaEnd at) = AreaEnd (n + at)
+moved n (StoredName at) = StoredName (n + at)
+moved n (Escape at) = Escape (n + at)
+moved n (Repeated at) = Repeated (n + at)
+moved n BadName = BadName
+moved n NoVariable = NoVariable
+moved n NoRoom = NoRoom
+moved n ShortBuffer = ShortBuffer
+
+-- a refusal answers its code and offset, no length or count, and leaves the buffer
+abbrev pub refusal : Error → List ℕ → Answer
+refusal e buffer = record { code = codeOf e; offset = offsetOf e; amount = 0; buffer = buffer }
+
+abbrev pub answer : ℕ → Reply → List ℕ → Answer
+answer n (done amount) buffer = record { code = 0; offset = 0; amount = amount; buffer = buffer }
+answer n (refused e) buffer = refusal (moved n e) buffer
+
+-- the name `common`
+abbrev pub commonName : List ℕ
+commonName = 0x63 ∷ 0x6F ∷ 0x6D ∷ 0x6D ∷ 0x6F ∷ 0x6E ∷ []
+
+-- what a call answers, and the image afterwards
+pub record Result : Type 0 where
+  pub told : Answer
+  pub image : List ℕ
+
+-- the call on the area of the partition that was found; no byte outside it changes
+abbrev pub callFound : Call → List ℕ → Found → Result
+callFound call image (At p) =
+    let o : Outcome = callArea call (areaOf image (At p)) in
+    record { told = answer (p .offset + 16) (o .reply) (o .buffer); image = pasted image (p .offset + 16) (o .area) }
+callFound call image (Refused e) = record { told = refusal e (lent call); image = image }
+
+abbrev pub pickResult : Bool → Result → Result → Result
+pickResult true a b = a
+pickResult false a b = b
+
+-- a call on an image: 11 first, then its length, its headers and `common`, then the area
+unfoldable pub callImage : Call → List ℕ → Result
+callImage call image =
+    pickResult (wellNamed call) (callFound call image (findOf image 0x70 commonName))
+    (record { told = refusal BadName (lent call); image = image })
+
+-- a list of calls: each gets the image as the last one left it
+pub record Results : Type 0 where
+  pub answers : List Answer
+  pub image : List ℕ
+
+unfoldable pub runImage : List Call → List ℕ → Results
+runImage [] image = record { answers = []; image = image }
+runImage (call ∷ calls) image =
+    let r : Result = callImage call image in
+    let rs : Results = runImage calls (r .image) in
+    record { answers = r .told ∷ rs .answers; image = rs .image }

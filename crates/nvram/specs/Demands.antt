@@ -1,0 +1,154 @@
+-- The three demands as statements; proofs/ proves them for every image, request and list of calls.
+use Prim.Native.Nat.{ℕ, _+_, _*_, _≤_}
+use mathlib.Core.Path.{_≡_}
+use mathlib.Core.List.{List, [], _∷_}
+use mathlib.Core.Logic.{_≢_, _⊎_, _↔_}
+use lib.ListN.{length, take, drop}
+use Rattle.lists.specs.Bytes.{AllBytes}
+use Rattle.header.specs.Rules.{blocksAt}
+use Rattle.partitions.specs.declared.Partition.{Partition}
+use Rattle.partitions.specs.declared.Found.{Found}
+use Rattle.partitions.specs.declared.Found.the-variants.{At, Refused}
+use Rattle.partitions.specs.declared.Checked.the-variants.{Accepted}
+use Rattle.partitions.specs.Find.{checkOf, indexOf, findOf, areaOf}
+use Rattle.partitions.specs.Answers.{checkAnswer, findAnswer}
+use Rattle.partitions.specs.Cover.{Counted, FirstNamed, areaAt}
+use Rattle.values.specs.Rules.{Spells}
+use Rattle.values.specs.Value.{encode}
+use Rattle.variables.specs.Rules.{Entry, Holds, WellFormed}
+use Rattle.variables.specs.Calls.{Call, set, remove, normalize, read, count}
+use Rattle.nvram.specs.Calls.{Answer, callImage, runImage}
+use Rattle.nvram.specs.Model.{Model, run, canonicalArea}
+use Rattle.nvram.specs.Table.{Request, variable, check, partition, find, area, Seen, lends, common, Answers}
+
+-- ---- what the library answers to a request
+
+abbrev pub seenFind : Found → List ℕ → Seen
+seenFind f I =
+    record {
+      code = findAnswer f .code;
+      offset = findAnswer f .offset;
+      amount = 0;
+      header = findAnswer f .header;
+      blocks = findAnswer f .blocks;
+      signature = findAnswer f .signature;
+      part = [];
+      buffer = [];
+      image = I;
+    }
+
+abbrev pub seen : Request → List ℕ → Seen
+seen (variable call) I =
+    record {
+      code = callImage call I .told .code;
+      offset = callImage call I .told .offset;
+      amount = callImage call I .told .amount;
+      header = 0;
+      blocks = 0;
+      signature = 0;
+      part = [];
+      buffer = callImage call I .told .buffer;
+      image = callImage call I .image;
+    }
+seen check I =
+    record {
+      code = checkAnswer (checkOf I) .code;
+      offset = checkAnswer (checkOf I) .offset;
+      amount = checkAnswer (checkOf I) .partitions;
+      header = 0;
+      blocks = 0;
+      signature = 0;
+      part = [];
+      buffer = [];
+      image = I;
+    }
+seen (partition n) I = seenFind (indexOf I n) I
+seen (find signature name) I = seenFind (findOf I signature name) I
+seen (area signature name) I =
+    record {
+      code = findAnswer (findOf I signature name) .code;
+      offset = findAnswer (findOf I signature name) .offset;
+      amount = 0;
+      header = 0;
+      blocks = 0;
+      signature = 0;
+      part = areaOf I (findOf I signature name);
+      buffer = [];
+      image = I;
+    }
+
+-- what a caller gives is bytes
+abbrev pub CallBytes : Call → Type 0
+CallBytes (set name value) = AllBytes value
+CallBytes (remove name) = Unit {0}
+CallBytes normalize = Unit {0}
+CallBytes (read name buffer) = Unit {0}
+CallBytes count = Unit {0}
+
+abbrev pub RequestBytes : Request → Type 0
+RequestBytes (variable call) = CallBytes call
+RequestBytes check = Unit {0}
+RequestBytes (partition n) = Unit {0}
+RequestBytes (find signature name) = Unit {0}
+RequestBytes (area signature name) = Unit {0}
+
+abbrev pub CallsBytes : List Call → Type 0
+CallsBytes [] = Unit {0}
+CallsBytes (call ∷ calls) = CallBytes call × CallsBytes calls
+
+-- DEMAND 1, of a request on an image
+pub record Demand1 (r : Request) (I : List ℕ) : Type 0 where
+  -- the table's row holds of exactly what the call gives
+  pub exactly : (s : Seen) → Answers I r s ↔ (seen r I ≡ s)
+  -- every number from 1 up leaves image and buffer as they were, and answers nothing else
+  pub image-kept : seen r I .code ≢ 0 → seen r I .image ≡ I
+  pub buffer-kept : seen r I .code ≢ 0 → seen r I .buffer ≡ lends r
+  pub nothing-told : seen r I .code ≢ 0 → seen r I .amount ≡ 0
+
+-- DEMAND 2, of an image
+pub record Demand2 (I : List ℕ) : Type 0 where
+  -- accepted exactly when sound partitions cover it
+  pub accepted : (n : ℕ) → (checkOf I ≡ Accepted n) ↔ Counted I n
+  -- a variable reads as the zero and 0xFF runs of its pair say
+  pub reads : (p : Partition) (es : List Entry) (name value buffer : List ℕ) → FirstNamed I 0x70 common p → WellFormed es (areaAt I (p .offset))
+      → Holds name es value → length value ≤ length buffer → (callImage (read name buffer) I .told .code ≡ 0)
+      × (callImage (read name buffer) I .told .amount ≡ length value) × (take (length value) (callImage (read name buffer) I .told .buffer) ≡ value)
+  -- what we write reads back the same
+  pub reads-back : (name value buffer : List ℕ) → AllBytes value → callImage (set name value) I .told .code ≡ 0 → length value ≤ length buffer
+      → (callImage (read name buffer) (callImage (set name value) I .image) .told .code ≡ 0)
+      × (callImage (read name buffer) (callImage (set name value) I .image) .told .amount ≡ length value)
+      × (take (length value) (callImage (read name buffer) (callImage (set name value) I .image) .told .buffer) ≡ value)
+  -- in the fewest bytes the rule allows
+  pub fewest : (value stored : List ℕ) → Spells stored value → length (encode value) ≤ length stored
+
+-- some normalizing stands among the calls
+abbrev pub Normalizes : List Call → Type 0
+Normalizes [] = ⊥
+Normalizes (call ∷ calls) = (call ≡ normalize) ⊎ Normalizes calls
+
+-- DEMAND 3: a taken image whose first `common` stands at a, with an area of the entries es, and a list of calls
+pub record Demand3 (I : List ℕ) (a : ℕ) (es : List Entry) (calls : List Call) : Type 0 where
+  -- every call has answered as the model does, which sees only the calls
+  pub answers : runImage calls I .answers ≡ run calls (record { room = length (areaAt I a); entries = es }) .answers
+  -- afterwards the area is well formed and holds exactly the model's entries, in its order
+  pub entries : WellFormed (run calls (record { room = length (areaAt I a); entries = es }) .model .entries) (areaAt (runImage calls I .image) a)
+  -- no byte outside the area has changed
+  pub long : length (runImage calls I .image) ≡ length I
+  pub before : take (a + 16) (runImage calls I .image) ≡ take (a + 16) I
+  pub after : drop (a + blocksAt I a * 16) (runImage calls I .image) ≡ drop (a + blocksAt I a * 16) I
+  -- canonical from the start, or normalized on the way: the area is the canonical form of the final entries
+  pub canonical : (areaAt I a ≡ canonicalArea (length (areaAt I a)) es) ⊎ Normalizes calls
+      → areaAt (runImage calls I .image) a
+      ≡ canonicalArea (length (areaAt I a)) (run calls (record { room = length (areaAt I a); entries = es }) .model .entries)
+
+-- all of it
+pub record Demands : Type 0 where
+  pub demand-1 : (r : Request) (I : List ℕ) → AllBytes I → RequestBytes r → Demand1 r I
+  pub demand-2 : (I : List ℕ) → AllBytes I → Demand2 I
+  pub demand-3 : (I : List ℕ) (p : Partition) (es : List Entry) (calls : List Call) → AllBytes I → CallsBytes calls
+      → FirstNamed I 0x70 common p → WellFormed es (areaAt I (p .offset)) → Demand3 I (p .offset) es calls
+  -- a read or count changes no byte of any image
+  pub read-keeps : (name buffer I : List ℕ) → callImage (read name buffer) I .image ≡ I
+  pub count-keeps : (I : List ℕ) → callImage count I .image ≡ I
+  -- a second normalizing changes nothing
+  pub normalize-twice : (I : List ℕ) → callImage normalize (callImage normalize I .image) .image ≡ callImage normalize I .image

@@ -1,0 +1,95 @@
+-- The examples of document 01 that are marked P, as one statement, E in literal bytes.
+use Prim.Native.Nat.{ℕ}
+use mathlib.Core.Path.{_≡_, refl}
+use mathlib.Core.List.{List, [], _∷_, _++_}
+use lib.ListN.{take, drop, replicate}
+use Rattle.lists.specs.Bytes.{sameBytes}
+use Rattle.lists.specs.Pasted.{pasted}
+use Rattle.header.specs.Checksum.{sumFrom, sumcheck}
+use Rattle.header.specs.Header.{headerAt, nameAt, validityOf, validityAt}
+use Rattle.partitions.specs.declared.Checked.the-variants.{Accepted, Refused}
+use Rattle.header.specs.declared.Error.the-variants.{ImageLength, ZeroLength, PastEnd}
+use Rattle.partitions.specs.Walk.{allowedLength, partitionOf, pastOf, stepAt, walkFrom, walk}
+use Rattle.partitions.specs.Find.{checkedBy, checkOf, padded, matches, firstMatch, findBy, findOf, areaOf}
+use Rattle.partitions.specs.Examples.{E, common, freeSpace}
+use Rattle.names.specs.Name.{nameByte, nameCheckFrom, nameCheck, goodName}
+use Rattle.values.specs.Value.{runByte, run, decodeFrom, decode, mark, fullEscapes, restEscape, runBytes, encodeFrom, encode}
+use Rattle.variables.specs.Scan.{scanName, scanValue, standAt}
+use Rattle.variables.specs.Area.{pairBytes, pairsBytes, stands, parseFrom, parse}
+use Rattle.variables.specs.Edits.{setPair, normalizePairs, lookup}
+use Rattle.variables.specs.Calls.{set, read, normalize, count, wellNamed, setIn, callPairs, callArea}
+use Rattle.nvram.specs.Calls.{Answer, moved, callImage}
+
+-- an answer with no buffer
+abbrev told : ℕ → ℕ → ℕ → Answer
+told code offset amount = record { code = code; offset = offset; amount = amount; buffer = [] }
+
+-- E with another area of 16 bytes
+abbrev holding : List ℕ → List ℕ
+holding area = take 16 E ++ (area ++ drop 32 E)
+
+-- E after example 6
+abbrev six : List ℕ
+six = holding (0x61 ∷ 0x3D ∷ 0x31 ∷ 0x00 ∷ 0x62 ∷ 0x3D ∷ 0xFF ∷ 0x02 ∷ 0xFF ∷ 0x81 ∷ 0x00 ∷ replicate 5 0x00)
+
+-- example 9's area, with padding
+abbrev nine : List ℕ
+nine = holding (0x61 ∷ 0x3D ∷ 0xFF ∷ 0x01 ∷ 0xFF ∷ 0x01 ∷ 0x00 ∷ 0x00 ∷ replicate 8 0xAA)
+
+pub record Examples : Type 0 where
+  pub one-2 : sumcheck (common 2) ≡ 0xFD
+  pub one-3 : sumcheck (common 3) ≡ 0xFE
+  pub one-4 : sumcheck (common 4) ≡ 0xFF
+  pub one-5 : sumcheck (common 5) ≡ 0x01
+  pub two : sumcheck freeSpace ≡ 0x1A
+  pub three : checkOf E ≡ Accepted 2
+  pub four-none : checkOf [] ≡ Refused ImageLength
+  pub four-forty : checkOf (take 40 E) ≡ Refused ImageLength
+  pub five-first : checkOf (take 32 E) ≡ Accepted 1
+  pub five-past : checkOf (0x70 ∷ 0xFD ∷ 0x00 ∷ 0x03 ∷ drop 4 (take 32 E)) ≡ Refused (PastEnd 0)
+  pub five-zero : checkOf (0x70 ∷ 0xFD ∷ 0x00 ∷ 0x00 ∷ drop 4 (take 32 E)) ≡ Refused (ZeroLength 0)
+  pub six-set : callImage (set (0x62 ∷ []) (0x00 ∷ 0x00 ∷ 0xFF ∷ [])) E ≡ record { told = told 0 0 0; image = six }
+  pub seven-fits : callImage (set (0x63 ∷ []) (0x31 ∷ [])) six .told ≡ told 0 0 0
+  pub seven-room : callImage (set (0x63 ∷ []) (0x31 ∷ 0x32 ∷ [])) six ≡ record { told = told 13 0 0; image = six }
+  pub eight-127 : encode (replicate 127 0x00) ≡ 0xFF ∷ 0x7F ∷ []
+  pub eight-128 : encode (replicate 128 0x00) ≡ 0xFF ∷ 0x7F ∷ 0xFF ∷ 0x01 ∷ []
+  pub eight-300 : encode (replicate 300 0x00) ≡ 0xFF ∷ 0x7F ∷ 0xFF ∷ 0x7F ∷ 0xFF ∷ 0x2E ∷ []
+  pub eight-ones : encode (replicate 127 0xFF) ≡ 0xFF ∷ 0xFF ∷ []
+  pub eight-fe : encode (0xFE ∷ []) ≡ 0xFE ∷ []
+  pub eight-empty : encode [] ≡ []
+  pub nine-read : callImage (read (0x61 ∷ []) (0x05 ∷ 0x05 ∷ 0x05 ∷ [])) nine .told
+      ≡ record { code = 0; offset = 0; amount = 2; buffer = 0x00 ∷ 0x00 ∷ 0x05 ∷ [] }
+  pub nine-normalized : callImage normalize nine .image ≡ holding (0x61 ∷ 0x3D ∷ 0xFF ∷ 0x02 ∷ 0x00 ∷ replicate 11 0x00)
+  pub ten-8 : callImage count (holding (0x61 ∷ 0x3D ∷ 0x31 ∷ 0x00 ∷ 0x41 ∷ 0x3D ∷ 0x32 ∷ 0x00 ∷ 0x00 ∷ replicate 7 0xAA)) .told ≡ told 8 20 0
+  pub ten-9 : callImage count (holding (0x61 ∷ 0x3D ∷ 0xFF ∷ 0x80 ∷ replicate 12 0xAA)) .told ≡ told 9 19 0
+  pub eleven : callImage count (holding (0x61 ∷ 0x3D ∷ replicate 13 0x78 ++ 0x00 ∷ [])) .told ≡ told 7 32 0
+
+pub examples : Examples
+unfolding callImage moved callArea callPairs setIn wellNamed goodName nameCheck nameCheckFrom nameByte parse parseFrom standAt scanName scanValue stands sameBytes Rattle.variables.specs.Edits.areaOf setPair normalizePairs lookup pairsBytes pairBytes encode encodeFrom runBytes fullEscapes restEscape mark decode decodeFrom run runByte pasted checkOf checkedBy walk walkFrom stepAt allowedLength partitionOf pastOf validityAt validityOf headerAt nameAt sumFrom padded matches firstMatch findBy findOf areaOf
+examples = record {
+  one-2 = refl;
+  one-3 = refl;
+  one-4 = refl;
+  one-5 = refl;
+  two = refl;
+  three = refl;
+  four-none = refl;
+  four-forty = refl;
+  five-first = refl;
+  five-past = refl;
+  five-zero = refl;
+  six-set = refl;
+  seven-fits = refl;
+  seven-room = refl;
+  eight-127 = refl;
+  eight-128 = refl;
+  eight-300 = refl;
+  eight-ones = refl;
+  eight-fe = refl;
+  eight-empty = refl;
+  nine-read = refl;
+  nine-normalized = refl;
+  ten-8 = refl;
+  ten-9 = refl;
+  eleven = refl;
+}

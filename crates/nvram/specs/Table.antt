@@ -1,0 +1,200 @@
+-- The table of numbers as one relation: a row for each number, its premises in the order of checks, in relations on bytes.
+-- Nothing here computes an answer, and nothing that computes an answer is used here.
+use Prim.Native.Nat.{ℕ, _+_, _*_, _≤_, _<_}
+use mathlib.Core.Path.{_≡_}
+use mathlib.Core.List.{List, [], _∷_, _++_}
+use mathlib.Core.Logic.{_≢_, _⊎_}
+use lib.ListN.{length, drop, take}
+use Rattle.lists.specs.Bytes.{Every}
+use Rattle.header.specs.Header.{byteAt}
+use Rattle.header.specs.Rules.{blocksAt, checksumAt}
+use Rattle.partitions.specs.declared.Partition.{Partition}
+use Rattle.partitions.specs.Cover.{LengthRule, Cover, Counted, FirstNamed, NotNamed, Indexed, NotIndexed, areaAt}
+use Rattle.names.specs.Rules.{NameByte, NameRule}
+use Rattle.values.specs.Rules.{Spells}
+use Rattle.variables.specs.Rules.{Entry, In, sizes, Pairs, Once, BadByte, CutOff, Holds, SetSize, SetLeaves, RemoveLeaves, NormalizeLeaves}
+use Rattle.variables.specs.Calls.{Call, set, remove, normalize, read, count}
+
+-- what a caller may ask of an image
+pub data Request : Type 0 where
+  variable : Call → Request
+  check : Request
+  partition : ℕ → Request
+  find : ℕ → List ℕ → Request
+  area : ℕ → List ℕ → Request
+
+-- all that the caller sees: code, offset, a length or count, a partition's header offset, blocks and signature, a part of the
+-- image, and buffer and image afterwards
+pub record Seen : Type 0 where
+  pub code : ℕ
+  pub offset : ℕ
+  pub amount : ℕ
+  pub header : ℕ
+  pub blocks : ℕ
+  pub signature : ℕ
+  pub part : List ℕ
+  pub buffer : List ℕ
+  pub image : List ℕ
+
+-- the buffer that a request lends
+abbrev pub lends : Request → List ℕ
+lends (variable (set name value)) = []
+lends (variable (remove name)) = []
+lends (variable normalize) = []
+lends (variable (read name buffer)) = buffer
+lends (variable count) = []
+lends check = []
+lends (partition n) = []
+lends (find signature name) = []
+lends (area signature name) = []
+
+-- a number from 1 up: nothing else is answered, and buffer and image are as they were
+abbrev pub refuses : Request → List ℕ → ℕ → ℕ → Seen
+refuses r I code offset =
+    record { code = code; offset = offset; amount = 0; header = 0; blocks = 0; signature = 0; part = []; buffer = lends r; image = I }
+
+-- done, with a length or count
+abbrev pub answers : ℕ → List ℕ → List ℕ → Seen
+answers amount buffer image =
+    record { code = 0; offset = 0; amount = amount; header = 0; blocks = 0; signature = 0; part = []; buffer = buffer; image = image }
+
+-- done, with a partition
+abbrev pub shows : Partition → List ℕ → Seen
+shows p I =
+    record {
+      code = 0;
+      offset = 0;
+      amount = 0;
+      header = p .offset;
+      blocks = p .blocks .0;
+      signature = p .signature;
+      part = [];
+      buffer = [];
+      image = I;
+    }
+
+-- done, with a part of the image
+abbrev pub hands : List ℕ → List ℕ → Seen
+hands part I =
+    record { code = 0; offset = 0; amount = 0; header = 0; blocks = 0; signature = 0; part = part; buffer = []; image = I }
+
+-- the requests that take a variable's name
+pub data Takes : Request → List ℕ → Type 0 where
+  by-set : {name value : List ℕ} → Takes (variable (set name value)) name
+  by-remove : {name : List ℕ} → Takes (variable (remove name)) name
+  by-read : {name buffer : List ℕ} → Takes (variable (read name buffer)) name
+
+-- not 11
+abbrev pub WellNamed : Request → Type 0
+WellNamed r = (name : List ℕ) → Takes r name → NameRule name
+
+-- the name `common`
+abbrev pub common : List ℕ
+common = 0x63 ∷ 0x6F ∷ 0x6D ∷ 0x6D ∷ 0x6F ∷ 0x6E ∷ []
+
+-- not 11, not 1; sound headers lead up to a, where another should stand
+pub record AtHeader (r : Request) (I : List ℕ) (a : ℕ) : Type 0 where
+  pub named : WellNamed r
+  pub long : LengthRule (length I)
+  pub before : List Partition
+  pub cover : Cover I 0 a before
+  pub within : a < length I
+
+-- the image is accepted, and has no partition that the request asks for
+pub data Absent (I : List ℕ) : Request → Type 0 where
+  no-common : {call : Call} → NotNamed I 0x70 common → Absent I (variable call)
+  no-index : {n : ℕ} → NotIndexed I n → Absent I (partition n)
+  no-name : {signature : ℕ} {name : List ℕ} → NotNamed I signature name → Absent I (find signature name)
+  no-area : {signature : ℕ} {name : List ℕ} → NotNamed I signature name → Absent I (area signature name)
+
+-- not 11, not 1 to 6: the first `common` stands at a; its area begins with good pairs, no name twice, and then comes rest
+pub record AtPair (call : Call) (I : List ℕ) (a : ℕ) (es : List Entry) (rest : List ℕ) : Type 0 where
+  pub named : WellNamed (variable call)
+  pub partition : Partition
+  pub first : FirstNamed I 0x70 common partition
+  pub stands : partition .offset ≡ a
+  pub pairs : Pairs es (areaAt I a) rest
+  pub once : Once es
+
+-- the image afterwards differs in the area alone
+pub record AreaBecomes (I : List ℕ) (a : ℕ) (area J : List ℕ) : Type 0 where
+  pub before : take (a + 16) J ≡ take (a + 16) I
+  pub inside : areaAt J a ≡ area
+  pub after : drop (a + blocksAt I a * 16) J ≡ drop (a + blocksAt I a * 16) I
+  pub long : length J ≡ length I
+
+-- a value at the start of a buffer, and the bytes after it kept
+pub record Holding (value buffer buffer′ : List ℕ) : Type 0 where
+  pub start : take (length value) buffer′ ≡ value
+  pub kept : drop (length value) buffer′ ≡ drop (length value) buffer
+  pub long : length buffer′ ≡ length buffer
+
+pub data Answers (I : List ℕ) : Request → Seen → Type 0 where
+  -- caller's variable name breaks the name rule
+  eleven : {r : Request} {name : List ℕ} → Takes r name → ¬ (NameRule name) → Answers I r (refuses r I 11 0)
+  -- image length outside the rule
+  one : {r : Request} → WellNamed r → ¬ (LengthRule (length I)) → Answers I r (refuses r I 1 0)
+  -- length field is zero
+  two : {r : Request} {a : ℕ} → AtHeader r I a → blocksAt I a ≡ 0 → Answers I r (refuses r I 2 a)
+  -- partition runs past the image's end
+  three : {r : Request} {a : ℕ} → AtHeader r I a → blocksAt I a ≢ 0 → length I < a + blocksAt I a * 16 → Answers I r (refuses r I 3 a)
+  -- stored and computed checksum differ
+  four : {r : Request} {a : ℕ} → AtHeader r I a → blocksAt I a ≢ 0 → a + blocksAt I a * 16 ≤ length I
+      → byteAt I a 1 ≢ checksumAt I a → Answers I r (refuses r I 4 a)
+  -- they agree and are zero
+  five : {r : Request} {a : ℕ} → AtHeader r I a → blocksAt I a ≢ 0 → a + blocksAt I a * 16 ≤ length I
+      → byteAt I a 1 ≡ checksumAt I a → byteAt I a 1 ≡ 0 → Answers I r (refuses r I 5 a)
+  -- partition not found
+  six : {r : Request} → WellNamed r → Absent I r → Answers I r (refuses r I 6 0)
+  -- area ends inside a pair, or where a pair or the end should begin
+  seven : {call : Call} {a : ℕ} {es : List Entry} {rest : List ℕ} → AtPair call I a es rest → CutOff rest
+      → Answers I (variable call) (refuses (variable call) I 7 (a + 16 + length (areaAt I a)))
+  -- stored name breaks the name rule (a 0x00 where a pair would begin is the end)
+  eight : {call : Call} {a b : ℕ} {es : List Entry} {begun : List ℕ} (rest : List ℕ) → AtPair call I a es (begun ++ b ∷ rest)
+      → Every NameByte begun → length begun ≤ 31 → BadByte (length begun) b → (begun ≡ [] → b ≢ 0x00)
+      → Answers I (variable call) (refuses (variable call) I 8 (a + 16 + (sizes es + length begun)))
+  -- 0xFF followed by 0x00 or 0x80
+  nine : {call : Call} {a c : ℕ} {es : List Entry} {name stored value : List ℕ} (rest : List ℕ)
+      → AtPair call I a es (name ++ 0x3D ∷ (stored ++ 0xFF ∷ c ∷ rest)) → NameRule name → Spells stored value → (c ≡ 0x00) ⊎ (c ≡ 0x80)
+      → Answers I (variable call) (refuses (variable call) I 9 (a + 16 + (sizes es + (length name + 1 + (length stored + 1)))))
+  -- name stands a second time
+  ten : {call : Call} {a : ℕ} {es : List Entry} {name stored value : List ℕ} (rest : List ℕ)
+      → AtPair call I a es (name ++ 0x3D ∷ (stored ++ 0x00 ∷ rest)) → NameRule name → Spells stored value → In name es
+      → Answers I (variable call) (refuses (variable call) I 10 (a + 16 + sizes es))
+  -- variable not found
+  twelve-read : {a : ℕ} {es : List Entry} {name buffer padding : List ℕ} → AtPair (read name buffer) I a es (0x00 ∷ padding)
+      → ¬ (In name es) → Answers I (variable (read name buffer)) (refuses (variable (read name buffer)) I 12 0)
+  twelve-remove : {a : ℕ} {es : List Entry} {name padding : List ℕ} → AtPair (remove name) I a es (0x00 ∷ padding)
+      → ¬ (In name es) → Answers I (variable (remove name)) (refuses (variable (remove name)) I 12 0)
+  -- pairs and ending 0x00 after the edit exceed the area
+  thirteen : {a n : ℕ} {es : List Entry} {name value padding : List ℕ} → AtPair (set name value) I a es (0x00 ∷ padding)
+      → SetSize name value es n → length (areaAt I a) < n + 1
+      → Answers I (variable (set name value)) (refuses (variable (set name value)) I 13 0)
+  -- caller's buffer shorter than the value
+  fourteen : {a : ℕ} {es : List Entry} {name buffer value padding : List ℕ} → AtPair (read name buffer) I a es (0x00 ∷ padding)
+      → Holds name es value → length buffer < length value
+      → Answers I (variable (read name buffer)) (refuses (variable (read name buffer)) I 14 0)
+  -- done: a set
+  done-set : {a n : ℕ} {es : List Entry} {name value padding area′ J : List ℕ} → AtPair (set name value) I a es (0x00 ∷ padding)
+      → SetSize name value es n → n + 1 ≤ length (areaAt I a) → SetLeaves name value (areaAt I a) area′ → AreaBecomes I a area′ J
+      → Answers I (variable (set name value)) (answers 0 [] J)
+  -- done: a removal
+  done-remove : {a : ℕ} {es : List Entry} {name value padding area′ J : List ℕ} → AtPair (remove name) I a es (0x00 ∷ padding)
+      → Holds name es value → RemoveLeaves name (areaAt I a) area′ → AreaBecomes I a area′ J
+      → Answers I (variable (remove name)) (answers 0 [] J)
+  -- done: normalizing
+  done-normalize : {a : ℕ} {es : List Entry} {padding area′ J : List ℕ} → AtPair normalize I a es (0x00 ∷ padding)
+      → NormalizeLeaves (areaAt I a) area′ → AreaBecomes I a area′ J → Answers I (variable normalize) (answers 0 [] J)
+  -- done: a read
+  done-read : {a : ℕ} {es : List Entry} {name buffer value padding buffer′ : List ℕ} → AtPair (read name buffer) I a es (0x00 ∷ padding)
+      → Holds name es value → length value ≤ length buffer → Holding value buffer buffer′
+      → Answers I (variable (read name buffer)) (answers (length value) buffer′ I)
+  -- done: a count of variables
+  done-count : {a : ℕ} {es : List Entry} {padding : List ℕ} → AtPair count I a es (0x00 ∷ padding)
+      → Answers I (variable count) (answers (length es) [] I)
+  -- done: the image check, a partition by index, by name, and its area
+  done-check : {n : ℕ} → Counted I n → Answers I check (answers n [] I)
+  done-partition : {n : ℕ} {p : Partition} → Indexed I n p → Answers I (partition n) (shows p I)
+  done-find : {signature : ℕ} {name : List ℕ} {p : Partition} → FirstNamed I signature name p → Answers I (find signature name) (shows p I)
+  done-area : {signature : ℕ} {name : List ℕ} {p : Partition} → FirstNamed I signature name p
+      → Answers I (area signature name) (hands (areaAt I (p .offset)) I)

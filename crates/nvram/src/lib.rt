@@ -1,0 +1,1 @@
+// Every call on an image: the library's face.
