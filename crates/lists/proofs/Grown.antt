@@ -57,3 +57,7 @@ module _ {all d : List ℕ} {at o : ℕ} {r b : List ℕ} (s : Grown all d at o 
 
   pub grown-end : r ≡ [] → o ≡ at + length all
   grown-end e = sym (s .upto) ∙ ap (λ (l : List ℕ). at + length l) (none-left e)
+
+-- what is still to come of a list that has room in all
+pub grown-left : {all d : List ℕ} {at o : ℕ} {r b : List ℕ} → Grown all d at o r b → at + length all ≤ length d → o + length r ≤ length d
+grown-left {r = r} s h = omega (arith, s .upto, length-append (s .done) r, ap length (s .joined))

@@ -1,4 +1,6 @@
 pub mod Tests
+pub mod ListLaws
 pub mod ByteLaws
 pub mod PastedLaws
 pub mod Grown
+pub mod MoveLaws

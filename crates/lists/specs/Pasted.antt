@@ -1,8 +1,19 @@
 -- A list with other bytes written over it.
-use Prim.Native.Nat.{ℕ, _+_}
+use Prim.Native.Nat.{ℕ, _+_, _-_}
+use mathlib.Core.Bool.{Bool, true, false, _&&_}
 use mathlib.Core.List.{List, _++_}
 use lib.ListN.{length, take, drop}
+use lib.Dec.{leb}
 
 -- d with the bytes of w written over it from the offset at
 unfoldable pub pasted : List ℕ → ℕ → List ℕ → List ℕ
 pasted d at w = take at d ++ w ++ drop (at + length w) d
+
+abbrev pub pickList : Bool → List ℕ → List ℕ → List ℕ
+pickList true a b = a
+pickList false a b = b
+
+-- d with its n bytes at `from` written over it at `to`, if both lie inside it; else d
+unfoldable pub movedBytes : List ℕ → ℕ → ℕ → ℕ → List ℕ
+movedBytes d from to n =
+    pickList (leb n (length d) && (leb from (length d - n) && leb to (length d - n))) (pasted d to (take n (drop from d))) d

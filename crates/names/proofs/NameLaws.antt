@@ -14,7 +14,7 @@ use Rattle.names.specs.declared.NameCheck.{NameCheck}
 use Rattle.names.specs.declared.NameCheck.the-variants.{Good, Wrong}
 use Rattle.names.specs.Name.{within, nameByte, nameCheckFrom, nameCheck, isGood, goodName}
 use Rattle.names.specs.Rules.{NameByte, NameRule, FirstWrong, empty, byte}
-use Rattle.names.proofs.ListLaws.{drop-next}
+use Rattle.lists.proofs.ListLaws.{drop-next}
 
 not-so : {A : Type 0} → false ≡ true → A
 not-so e = clash (cc)

@@ -12,7 +12,7 @@ use Rattle.lists.specs.Bytes.{AllBytes}
 use Rattle.lists.proofs.Tests.{split, clash}
 use Rattle.values.specs.Value.{mark, fullEscapes, restEscape, runBytes, escaped, encodeFrom, encode}
 use Rattle.values.specs.Rules.{Escapes, full, rest, none, Begins, Canonical, nothing, itself, zeros, ones}
-use Rattle.values.proofs.ListLaws.{replicate-snoc}
+use Rattle.lists.proofs.ListLaws.{replicate-snoc}
 use Rattle.values.proofs.EncodeLaws.{escaped-cases, escaped-zero, escaped-ff, rest-none, rest-some, encode-none, encode-more, encode-other, encode-plain, encode-cases, encode-same, encode-run}
 
 -- ---- a run

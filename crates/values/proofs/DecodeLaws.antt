@@ -12,7 +12,7 @@ use Rattle.lists.specs.Bytes.{Every, AllBytes}
 use Rattle.lists.proofs.Tests.{split, clash, and-true}
 use Rattle.values.specs.Value.{runByte, run, decodeFrom, decode, spelledFrom, spelled}
 use Rattle.values.specs.Rules.{Spells, nothing, itself, zeros, ones}
-use Rattle.values.proofs.ListLaws.{drop-next, every-append, every-replicate}
+use Rattle.lists.proofs.ListLaws.{drop-next, every-append, every-replicate}
 
 -- ---- one step
 

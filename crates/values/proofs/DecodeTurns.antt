@@ -13,7 +13,8 @@ use Rattle.lists.proofs.Grown.{Grown, grown-none, grown-as, grown-same, grown-p
 use Rattle.lists.proofs.Tests.{split}
 use Rattle.values.specs.declared.Written.the-variants.{Length, NoRoom}
 use Rattle.values.specs.Value.{runByte, run, decode, writtenOf, spelledFrom, spelled}
-use Rattle.values.proofs.ListLaws.{grown-left, drop-next}
+use Rattle.lists.proofs.ListLaws.{drop-next}
+use Rattle.lists.proofs.Grown.{grown-left}
 use Rattle.values.proofs.DecodeLaws.{length-run, decode-end, decode-one, decode-two, decode-stop, length-one, length-two, spelled-plain, spelled-escape, empty-spelled}
 use Rattle.values.proofs.WrittenLaws.{written-not, count-fits}
 

@@ -13,7 +13,7 @@ use Rattle.lists.specs.Bytes.{Every, AllBytes}
 use Rattle.lists.proofs.Tests.{split, clash}
 use Rattle.values.specs.Value.{run, decode, spelled, mark, fullEscapes, restEscape, runBytes, escaped, encodeFrom, encode}
 use Rattle.values.specs.Rules.{Spells, nothing, itself, zeros, ones}
-use Rattle.values.proofs.ListLaws.{replicate-two, replicate-snoc, every-append}
+use Rattle.lists.proofs.ListLaws.{replicate-two, replicate-snoc, every-append}
 use Rattle.values.proofs.DecodeLaws.{decode-none, decode-plain, decode-escape, run-zeros, run-ones, spelled-plain, spelled-escape, empty-spelled, spells-exactly, spelled-no-zero}
 
 -- ---- a byte that is escaped

@@ -15,7 +15,8 @@ use Rattle.lists.proofs.PastedLaws.{set-pasted, set-after}
 use Rattle.lists.proofs.Grown.{Grown, grown-none, grown-as, grown-same, grown-piece, grown-byte, grown-all, grown-end}
 use Rattle.values.specs.Value.{mark, fullEscapes, restEscape, runBytes, escaped, leading, encode}
 use Rattle.values.specs.Rules.{Begins}
-use Rattle.values.proofs.ListLaws.{drop-next, grown-left}
+use Rattle.lists.proofs.ListLaws.{drop-next}
+use Rattle.lists.proofs.Grown.{grown-left}
 use Rattle.values.proofs.EncodeLaws.{rest-none, rest-some, length-run-bytes, length-encode}
 use Rattle.values.proofs.CanonicalLaws.{encode-longest, encode-itself, encode-empty}
 

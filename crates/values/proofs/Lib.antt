@@ -1,4 +1,3 @@
-pub mod ListLaws
 pub mod DecodeLaws
 pub mod EncodeLaws
 pub mod CanonicalLaws

@@ -16,7 +16,7 @@ use Rattle.lists.proofs.ByteLaws.{every-take, every-drop}
 use Rattle.values.specs.declared.Written.the-variants.{Length, NoRoom}
 use Rattle.values.specs.Value.{runByte, run, decode, spelled, mark, runBytes, escaped, encodeFrom, part, recodable, recoded, recodedOf, recodedIn}
 use Rattle.values.specs.Rules.{Spells}
-use Rattle.values.proofs.ListLaws.{drop-next}
+use Rattle.lists.proofs.ListLaws.{drop-next}
 use Rattle.values.proofs.DecodeLaws.{run-low, run-high, spells-exactly}
 use Rattle.values.proofs.EncodeLaws.{encode-none, encode-plain, encode-more, encode-other, encode-cases, encode-same, encode-run, encode-shortest}
 use Rattle.values.proofs.CanonicalLaws.{full-step}

@@ -26,11 +26,7 @@ fn fill(buffer: &mut [u8], from: usize, to: usize, b: u8)
     requires { ⌜ (from ≤ to) × (to ≤ length (now buffer)) ⌝ }
     ensures { λ _. ⌜ now (buffer .exit) ≡ pasted (now (buffer .entry)) from (replicate (to - from) b) ⌝ }
 {
-    let mut i = from;
-    while i < to {
-        buffer[i] = b;
-        i += 1;
-    }
+    lists::fill(&mut buffer[from..to], b);
 }
 
 // The length of the value that is stored so, if that is at most `room`.
