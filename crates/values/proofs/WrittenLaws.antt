@@ -1,12 +1,15 @@
 -- The laws of `writtenOf` and `writtenIn`: bytes that fit, and bytes that do not.
-use Prim.Native.Nat.{ℕ, _≤_, _<_}
+use Prim.Native.Nat.{ℕ, _-_, _≤_, _<_}
 use mathlib.Core.Path.{_≡_, sym, ap, _∙_}
 use mathlib.Core.List.{List}
 use native.Mathlib.Omega.{arith}
 use lib.ListN.{length}
 use lib.Dec.{leb}
 use borrow.Author.Tests.{le-leb, lt-leb, leb-true, leb-false}
+use borrow.Rule.Slice.PartMut.{putMid, midOf, mid-len}
+use lib.Seq.{take-all}
 use Rattle.lists.specs.Pasted.{pasted}
+use Rattle.lists.proofs.PastedLaws.{part-copied}
 use Rattle.lists.proofs.Tests.{split, clash}
 use Rattle.values.specs.declared.Written.the-variants.{Length, NoRoom}
 use Rattle.values.specs.Value.{writtenOf, writtenIn}
@@ -51,3 +54,12 @@ module _ (l buffer : List ℕ) where
 -- the same of a count
 pub count-fits : (l : List ℕ) (room n : ℕ) → n ≡ length l → n ≤ room → Length n ≡ writtenOf l room
 count-fits l room n e h = ap Length e ∙ sym (written-fits l room (omega arith))
+
+-- a lent part `&mut d[a..e]` of the bytes' own length, to which they were written
+pub part-written : (d : List ℕ) (a e : ℕ) (w last : List ℕ) → a ≤ e → e ≤ length d → length w ≡ e - a
+    → last ≡ writtenIn w (midOf a (e - a) d) → putMid a (e - a) d last ≡ pasted d a w
+part-written d a e w last h k n q =
+    let m : length (midOf a (e - a) d) ≡ e - a = mid-len a e d k in
+    part-copied d a e w last h k (omega arith)
+    (q ∙ pasted-in w (midOf a (e - a) d) (omega arith)
+    ∙ ap (pasted (midOf a (e - a) d) 0) (sym (take-all (length (midOf a (e - a) d)) w (omega arith))))

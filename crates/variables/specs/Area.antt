@@ -1,9 +1,9 @@
 -- The variable area: pairs, the ending 0x00, padding; and its faults 7 to 10, whose offsets count from the area's first byte.
 use Prim.Native.Nat.{ℕ, zero, suc, _+_}
-use mathlib.Core.Bool.{Bool, true, false, _||_}
+use mathlib.Core.Bool.{Bool, true, false}
 use mathlib.Core.List.{List, [], _∷_, _++_}
 use lib.ListN.{length}
-use Rattle.lists.specs.Bytes.{sameBytes}
+unfoldable pub use Rattle.repeats.specs.Pieces.{stands}
 use Rattle.header.specs.declared.Error.{Error}
 use Rattle.header.specs.declared.Error.the-variants.{AreaEnd, StoredName, Escape, Repeated}
 use Rattle.variables.specs.Scan.{Stand, pair, finish, cut, wrongName, wrongEscape, standAt}
@@ -23,11 +23,6 @@ pairBytes p = p .name ++ 0x3D ∷ (p .stored ++ 0x00 ∷ [])
 unfoldable pub pairsBytes : List Pair → List ℕ
 pairsBytes [] = []
 pairsBytes (p ∷ ps) = pairBytes p ++ pairsBytes ps
-
--- whether a name stands among others
-unfoldable pub stands : List ℕ → List (List ℕ) → Bool
-stands name [] = false
-stands name (n ∷ ns) = sameBytes name n || stands name ns
 
 -- the pairs of an area, or its first fault
 pub data Parse : Type 0 where

@@ -2,5 +2,7 @@ pub mod Scan
 pub mod Area
 pub mod Edits
 pub mod Calls
+pub mod Places
 pub mod Rules
 pub mod Examples
+pub mod EditPlaces

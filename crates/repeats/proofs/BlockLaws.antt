@@ -1,0 +1,164 @@
+-- Laws of a block: pieces are gathered into its table, and the later pieces looked up in it.
+use Prim.Native.Nat.{ℕ, _+_, _<_, _≤_}
+use mathlib.Core.Path.{_≡_, refl, sym, ap, _∙_, subst}
+use mathlib.Core.Bool.{true, false}
+use mathlib.Core.List.{List}
+use native.Mathlib.Omega.{arith}
+use lib.Dec.{ltb}
+use lib.ListN.{length, getD, set, replicate}
+use lib.Seq.{getD-set-same, getD-set-other}
+use borrow.Author.Tests.{ltb-true, ltb-false}
+use Rattle.lists.proofs.Tests.{split}
+use Rattle.repeats.specs.Pieces.{nameAt, starts}
+use Rattle.repeats.specs.Places.{Start, Next, Distinct, Best}
+use Rattle.repeats.specs.Table.{Table, Hit, Looked, Entry, Holds, Block, Turn, Gathered}
+use Rattle.repeats.proofs.TableLaws.{split-eq, new-table}
+
+-- a block
+pub empty-holds : (l starts : List ℕ) (from : ℕ) → Holds l starts 0 from from
+empty-holds l starts from = record {
+  begins = λ i h. absurd (omega arith);
+  low = λ i h. absurd (omega arith);
+  high = λ i h. absurd (omega arith);
+  full = λ p a b s. absurd (omega arith);
+}
+
+pub empty-block : {l heads next starts : List ℕ} {from best : ℕ} → Table l heads next starts 0 → Distinct l from best → from < best → best ≤ length l → Start l from → Block l heads next starts 0 from from best
+empty-block {l} {heads} {next} {starts} {from} {best} t d h b s = record {
+  table = t;
+  holds = empty-holds l starts from;
+  from-low = omega arith;
+  at-high = omega arith;
+  best-in = b;
+  begins = λ _. s;
+  apart = record { differ = λ p q a b c u v e. d .differ p q a b (omega arith) u v e };
+}
+
+-- the name at `at` stands at no start below mid: one place more is distinct
+distinct-next : {l starts : List ℕ} {k from mid best at r : ℕ} → Holds l starts k from mid → Distinct l from best → Distinct l mid at
+    → at < best → mid ≤ at → Next l at r → ((i : ℕ) → i < k → nameAt l (getD starts i 0) ≡ nameAt l at → ⊥) → Distinct l mid r
+distinct-next {l} {starts} {k} {from} {mid} {best} {at} {r} hs d m h o n miss = record {
+  differ = λ p q a b c u v e.
+      split (ltb q at)
+      (λ t. m .differ p q a b (ltb-true q at t) u v e)
+      (λ t. split-eq q at
+      (λ w. split (ltb p from)
+      (λ y. d .differ p q (ltb-true p from y) b (omega arith) u v e)
+      (λ y. let en : Entry starts k p = hs .full p (ltb-false p from y) a u in
+      miss (en .entry) (en .below) (ap (λ (z : ℕ). nameAt l z) (en .is) ∙ e ∙ ap (λ (z : ℕ). nameAt l z) w)))
+      (λ w. absurd (n .none q (omega (arith, ltb-false q at t)) c v)));
+}
+
+-- the same where the place itself joins the block
+distinct-grow : {l starts : List ℕ} {k from best at r : ℕ} → Holds l starts k from at → Distinct l from best → Distinct l at at
+    → at < best → Next l at r → ((i : ℕ) → i < k → nameAt l (getD starts i 0) ≡ nameAt l at → ⊥) → Distinct l r r
+distinct-grow {l} {starts} {k} {from} {best} {at} {r} hs d m h n miss =
+    let g : Distinct l at r = distinct-next hs d m h (omega arith) n miss in
+    record {
+      differ = λ p q a b c u v e.
+          split (ltb p at)
+          (λ t. g .differ p q (ltb-true p at t) b c u v e)
+          (λ t. n .none q (omega (arith, ltb-false p at t)) c v);
+    }
+
+holds-more : {l starts : List ℕ} {k from at r : ℕ} → length starts ≡ 1024 → k < 1024 → Holds l starts k from at → from ≤ at → Start l at → Next l at r → Holds l (set starts k at) (k + 1) from r
+holds-more {l} {starts} {k} {from} {at} {r} long room hs o st n = record {
+  begins = λ i h. split-eq i k
+      (λ q. subst (λ (z : ℕ). Start l z) (sym (new i q)) st)
+      (λ q. subst (λ (z : ℕ). Start l z) (sym (old i q)) (hs .begins i (omega arith)));
+  low = λ i h. split-eq i k (λ q. omega (arith, new i q)) (λ q. omega (arith, old i q, hs .low i (omega arith)));
+  high = λ i h. split-eq i k (λ q. omega (arith, new i q, n .falls)) (λ q. omega (arith, old i q, hs .high i (omega arith), n .falls));
+  full = λ p a b s. split-eq p at
+      (λ q. record { entry = k; below = omega arith; is = new k refl ∙ sym q })
+      (λ q. split (ltb p at)
+      (λ t. let en : Entry starts k p = hs .full p a (ltb-true p at t) s in
+      record { entry = en .entry; below = omega (arith, en .below); is = old (en .entry) (λ w. omega (arith, en .below)) ∙ en .is })
+      (λ t. absurd (n .none p (omega (arith, ltb-false p at t)) b s)));
+}
+  where
+    new : (i : ℕ) → i ≡ k → getD (set starts k at) i 0 ≡ at
+    new i q = ap (λ (z : ℕ). getD (set starts k at) z 0) q ∙ getD-set-same starts k at 0 (omega (arith, long))
+
+    old : (i : ℕ) → (i ≡ k → ⊥) → getD (set starts k at) i 0 ≡ getD starts i 0
+    old i q = getD-set-other starts k i at 0 q
+
+module _ {l heads next starts : List ℕ} {k from at best : ℕ} (s : Block l heads next starts k from at best) where
+  pub block-more : (heads' next' starts' : List ℕ) (r : ℕ) → Distinct l from best → at < best → k < 1024 → Looked l starts k at false → Table l heads' next' starts' (k + 1) → starts' ≡ set starts k at → Next l at r → r ≤ best
+      → Block l heads' next' starts' (k + 1) from r best
+  block-more heads' next' starts' r d h room look t e n f = record {
+    table = t;
+    holds = subst (λ (z : List ℕ). Holds l z (k + 1) from r) (sym e) (holds-more (s .table .starts-long) room (s .holds) (s .from-low) (s .begins h) n);
+    from-low = omega (arith, s .from-low, n .falls);
+    at-high = f;
+    best-in = s .best-in;
+    begins = λ w. n .start (omega (arith, s .best-in));
+    apart = distinct-grow (s .holds) d (s .apart) h n (look .missed refl);
+  }
+
+  pub block-hit : at < best → Looked l starts k at true → Gathered l heads next starts k from at best true
+  block-hit h look =
+      let t : Hit l starts k at = look .found refl in
+      record {
+        block = s;
+        further = omega (arith, s .holds .low (t .entry) (t .below), s .holds .high (t .entry) (t .below));
+        early = λ _. record { place = getD starts (t .entry) 0; before = s .holds .high (t .entry) (t .below); first = s .holds .begins (t .entry) (t .below); second = s .begins h; same = t .same };
+      }
+
+  pub block-done : from < at → Gathered l heads next starts k from at best false
+  block-done h = record { block = s; further = h; early = λ e. let z : _≡_ {A = ℕ} 0 1 = cc in absurd (omega arith) }
+
+  pub block-full : 1024 ≤ k → Gathered l heads next starts k from at best false
+  block-full h = block-done (omega (arith, s .holds .low 0 (omega arith), s .holds .high 0 (omega arith)))
+
+-- the rest of the area against a block
+pub record Scanned (l : List ℕ) (from mid best at : ℕ) : Type 0 where
+  pub apart : Distinct l mid at
+  pub low : mid ≤ at
+  pub begins : at < best → Start l at
+  pub high : at ≤ best
+
+-- what a scan answers
+module _ {l heads next starts : List ℕ} {k from mid best : ℕ} (s : Block l heads next starts k from mid best) where
+  pub scan-none : Scanned l from mid best mid
+  scan-none = record { apart = s .apart; low = omega arith; begins = s .begins; high = s .at-high }
+
+  pub scan-more : {at r : ℕ} → Scanned l from mid best at → Distinct l from best → at < best → Looked l starts k at false → Next l at r → r ≤ best → Scanned l from mid best r
+  scan-more {at} {r} c d h look n f = record {
+    apart = distinct-next (s .holds) d (c .apart) h (c .low) n (look .missed refl);
+    low = omega (arith, c .low, n .falls);
+    begins = λ w. n .start (omega (arith, s .best-in));
+    high = f;
+  }
+
+  pub scan-hit : {at : ℕ} → Scanned l from mid best at → from < mid → at < best → Looked l starts k at true → Turn l from best mid at
+  scan-hit {at} c w h look =
+      let t : Hit l starts k at = look .found refl in
+      record {
+        distinct = c .apart;
+        better = record {
+          inside = omega (arith, s .best-in);
+          hit = λ _. record { place = getD starts (t .entry) 0; before = omega (arith, s .holds .high (t .entry) (t .below), c .low); first = s .holds .begins (t .entry) (t .below); second = c .begins h; same = t .same };
+        };
+        further = w;
+        begins = λ y. s .begins (omega arith);
+      }
+
+  pub scan-end : {at : ℕ} → Scanned l from mid best at → from < mid → best ≤ at → Best l best → Turn l from best mid best
+  scan-end {at} c w h b = record {
+    distinct = record { differ = λ p q a b c' u v e. c .apart .differ p q a b (omega arith) u v e };
+    better = b;
+    further = w;
+    begins = λ y. s .begins y;
+  }
+
+pub turn-hit : {l heads next starts : List ℕ} {k from at best : ℕ} → Gathered l heads next starts k from at best true → Turn l from best at at
+turn-hit {l} {heads} {next} {starts} {k} {from} {at} {best} f = record {
+  distinct = f .block .apart;
+  better = record { inside = omega (arith, f .block .at-high, f .block .best-in); hit = λ _. f .early refl };
+  further = f .further;
+  begins = λ y. absurd (omega arith);
+}
+
+pub new-block : {l : List ℕ} {from best : ℕ} → Distinct l from best → Best l best → from < best → Start l from
+    → Block l (replicate 2048 0) (replicate 1024 0) (replicate 1024 0) 0 from from best
+new-block {l} {from} {best} d b h s = empty-block (new-table l 2048 1024 refl refl) d h (b .inside) s

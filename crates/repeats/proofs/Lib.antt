@@ -1,0 +1,5 @@
+pub mod NameLaws
+pub mod StartLaws
+pub mod TableLaws
+pub mod BlockLaws
+pub mod FirstLaws

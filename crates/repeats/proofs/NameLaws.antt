@@ -1,0 +1,81 @@
+-- Laws of a name: read byte by byte, its end, its comparison with another and its hash.
+use Prim.Native.Nat.{ℕ, zero, suc, _+_, _*_, _/_, _%_, _<_, _≤_}
+use mathlib.Core.Path.{_≡_, refl, sym, ap, _∙_}
+use mathlib.Core.Logic.{_⊎_, ⊎-elim, inl, inr}
+use mathlib.Core.Bool.{true, false}
+use mathlib.Core.List.{List, _∷_}
+use native.Mathlib.Numerals.{add-one}
+use native.Mathlib.Omega.{arith}
+use lib.Dec.{ltb}
+use lib.ListN.{length, drop, getD, drop-of-length-le}
+use lib.Seq.{drop-cons}
+use borrow.Author.Tests.{eq-eqb, ne-eqb, ltb-true, ltb-false}
+use Rattle.lists.specs.Bytes.{sameBytes}
+use Rattle.lists.proofs.Tests.{split}
+use Rattle.lists.proofs.ByteLaws.{same-refl}
+use Rattle.repeats.specs.Pieces.{endsName, nameOf, nameAt}
+use Rattle.repeats.specs.Places.{NameByte}
+use Rattle.repeats.specs.Table.{hashFrom, bucket}
+
+pub drop-next : (l : List ℕ) (i : ℕ) → i < length l → drop i l ≡ getD l i 0 ∷ drop (i + 1) l
+drop-next l i h = rw (add-one, drop-cons l i 0)
+
+-- a byte of a name
+pub name-none : (l : List ℕ) (at : ℕ) → length l ≤ at → NameByte l at 0
+unfolding nameAt nameOf
+name-none l at h = record { ended = λ _. rw (drop-of-length-le l h); goes = λ z. absurd (omega arith); within = λ z. absurd (omega arith) }
+
+pub name-stop : (l : List ℕ) (at : ℕ) → at < length l → getD l at 0 ≡ 61 → NameByte l at 0
+unfolding nameAt nameOf endsName
+name-stop l at h e = record { ended = λ _. rw (drop-next l at h, e, nameOf); goes = λ z. absurd (omega arith); within = λ z. absurd (omega arith) }
+
+pub name-byte : (l : List ℕ) (at : ℕ) → at < length l → (getD l at 0 ≡ 61 → ⊥) → NameByte l at (getD l at 0)
+unfolding nameAt nameOf endsName
+name-byte l at h e = record {
+  ended = λ z. rw (drop-next l at h, z, nameOf);
+  goes = λ z. rw (drop-next l at h, ne-eqb (getD l at 0) 61 e, ne-eqb (getD l at 0) 0 (λ q. omega arith), nameOf);
+  within = λ z. h;
+}
+
+-- two names, byte by byte
+module _ {l : List ℕ} {i j x y : ℕ} (a : NameByte l i x) (b : NameByte l j y) where
+  pub bytes-end : x ≡ y → x ≡ 0 → sameBytes (nameAt l i) (nameAt l j) ≡ true
+  unfolding sameBytes
+  bytes-end e z = rw (a .ended z, b .ended (sym e ∙ z))
+
+  pub bytes-same : x ≡ y → (x ≡ 0 → ⊥) → sameBytes (nameAt l i) (nameAt l j) ≡ sameBytes (nameAt l (i + 1)) (nameAt l (j + 1))
+  unfolding sameBytes
+  bytes-same e z = rw (a .goes (omega arith), b .goes (omega arith), eq-eqb x y e)
+
+  pub bytes-differ : (x ≡ y → ⊥) → sameBytes (nameAt l i) (nameAt l j) ≡ false
+  unfolding sameBytes
+  bytes-differ e = split (ltb 0 x)
+      (λ p. split (ltb 0 y)
+      (λ q. rw (a .goes (ltb-true 0 x p), b .goes (ltb-true 0 y q), ne-eqb x y e))
+      (λ q. let z : y ≡ 0 = omega (arith, ltb-false 0 y q) in rw (a .goes (ltb-true 0 x p), b .ended z)))
+      (λ p. let w : x ≡ 0 = omega (arith, ltb-false 0 x p) in
+      let y0 : 0 < y = ⊎-elim (λ k. k) (λ k. absurd (e (w ∙ sym k))) (pos y) in
+      rw (a .ended w, b .goes y0))
+    where
+      pos : (n : ℕ) → (0 < n) ⊎ (n ≡ 0)
+      pos zero = inr refl
+      pos (suc n) = inl (omega arith)
+
+pub same-not : (x y : List ℕ) → sameBytes x y ≡ false → x ≡ y → ⊥
+same-not x y e q =
+    let t : sameBytes x x ≡ true = same-refl x in
+    let u : sameBytes x x ≡ false = ap (λ (w : List ℕ). sameBytes x w) q ∙ e in
+    let z : _≡_ {A = ℕ} 0 1 = cc in omega arith
+
+-- the hash
+pub hash-end : {l : List ℕ} {i x : ℕ} (h : ℕ) → NameByte l i x → x ≡ 0 → hashFrom h (nameAt l i) ≡ h
+unfolding hashFrom
+hash-end h a z = rw (a .ended z)
+
+pub hash-step : {l : List ℕ} {i x : ℕ} (h : ℕ) → NameByte l i x → (x ≡ 0 → ⊥) → hashFrom h (nameAt l i) ≡ hashFrom ((h * 16777619 + x * 2654435) % 4294967296) (nameAt l (i + 1))
+unfolding hashFrom
+hash-step h a z = rw (a .goes (omega arith))
+
+pub bucket-is : (name : List ℕ) (h : ℕ) → hashFrom 0 name ≡ h → h / 65536 % 2048 ≡ bucket name
+unfolding bucket
+bucket-is name h e = rw e

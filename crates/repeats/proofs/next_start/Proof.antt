@@ -1,0 +1,54 @@
+-- `repeats::next_start` meets its contract. The invariant: no piece begins between `at` and i.
+use Prim.Native.Nat.{ℕ, _-_, _<_, _≤_}
+use native.Mathlib.Omega.{arith}
+use lib.ListN.{length}
+use borrow.Author.Needs.{needs}
+use Rattle.repeats.specs.Places.{Start}
+use Rattle.repeats.proofs.StartLaws.{none-more, next-found, next-end}
+use Rattle.repeats.proofs.next_start.Statement.{statement}
+use Rattle.repeats.proofs.next_start.Tie as tie
+
+abbrev Inv-loop : tie.InvT-loop
+Inv-loop pairs at i₀ i = (at ≤ i) × (i ≤ length pairs) × ((s : ℕ) → at < s → s ≤ i → Start pairs s → ⊥)
+
+abbrev μ-loop : tie.MeasureT-loop
+μ-loop pairs at i₀ i = length pairs - i
+
+loop-holds : tie.Need-loop-holds Inv-loop μ-loop
+loop-holds c = (search needs, search needs, λ s a b st. omega arith)
+
+shared-slice-read-if1 : tie.Need-shared-slice-read-if1 Inv-loop μ-loop
+shared-slice-read-if1 c = search needs
+
+add-result : tie.Need-add-result Inv-loop μ-loop
+add-result c = search needs
+
+returns : tie.Need-returns Inv-loop μ-loop
+returns c = next-found (c .before .before .before .loop .inv .2) (search needs) (search needs) (c .if1 .taken)
+
+add-i : tie.Need-add-i Inv-loop μ-loop
+add-i c = search needs
+
+loop-less : tie.Need-loop-less Inv-loop μ-loop
+loop-less c = search needs
+
+loop-again : tie.Need-loop-again Inv-loop μ-loop
+loop-again c = (search needs, search needs, none-more (c .before .before .before .loop .inv .2) (search needs) (c .if1 .left))
+
+returns-2 : tie.Need-returns-2 Inv-loop μ-loop
+returns-2 c = next-end (c .before .loop .inv .2) (c .before .before .pre) (omega arith)
+
+pub next-start-spec : {M : Type 1} → statement M
+next-start-spec =
+    tie.close
+    (tie.spec
+    Inv-loop
+    μ-loop
+    loop-holds
+    shared-slice-read-if1
+    add-result
+    returns
+    add-i
+    loop-less
+    loop-again
+    returns-2)

@@ -1,0 +1,4 @@
+pub mod Pieces
+pub mod Places
+pub mod Table
+pub mod Examples

@@ -1,0 +1,174 @@
+-- What the code's answers tell of the calls: a name refused, a fault of the area, its pairs, and the value that is read.
+use Prim.Native.Nat.{ℕ, zero, suc, _+_, _<_, _≤_}
+use mathlib.Core.Path.{_≡_, refl, sym, ap, _∙_}
+use mathlib.Core.Bool.{true, false}
+use mathlib.Core.List.{List}
+use native.Mathlib.Omega.{arith}
+use lib.ListN.{length, length-append}
+use borrow.Author.Tests.{lt-ltb, le-ltb}
+use Rattle.lists.specs.Bytes.{sameBytes}
+use Rattle.lists.proofs.Tests.{split, clash}
+use Rattle.header.specs.declared.Error.{Error}
+use Rattle.header.specs.declared.Error.the-variants.{BadName, NoVariable, ShortBuffer}
+use Rattle.names.specs.declared.NameCheck.the-variants.{Good, Wrong}
+use Rattle.names.specs.Name.{nameCheck, isGood, goodName}
+use Rattle.values.specs.declared.Written.the-variants.{Length, NoRoom}
+use Rattle.values.specs.Value.{decode, part, writtenOf, writtenIn}
+use Rattle.values.proofs.WrittenLaws.{length-told, fits-told, no-room-told, pasted-in, kept-in}
+use Rattle.variables.specs.declared.Scanned.the-variants.{Pairs, Refused}
+use Rattle.variables.specs.declared.Place.{Place}
+use Rattle.variables.specs.declared.Place.the-variants.{At, None}
+use Rattle.variables.specs.Scan.{Stand, pair, finish, cut, wrongName, wrongEscape, standAt}
+use Rattle.variables.specs.Area.{Pair, pairsBytes, Parse, parsed, faulty, parse}
+use Rattle.variables.specs.Edits.{Lookup, found, lookup}
+use Rattle.variables.specs.Calls.{Call, count, read, Reply, done, refused, Outcome, refuse, wellNamed, readBy, callPairs, callArea}
+use Rattle.variables.specs.Places.{scannedOf, onFind, findFrom, findAt, valueAt, pairRead}
+use Rattle.variables.proofs.PairPlaces.{pair-here}
+use Rattle.variables.proofs.FoundLaws.{parsed-ended, FoundAt, find-found, find-missing, lookup-split, found-stored}
+
+-- ---- the area's parse, by the code's scan
+
+pub record PairsOf (p : Parse) (n used : ℕ) : Type 0 where
+  pub pairs : List Pair
+  pub is : p ≡ parsed pairs
+  pub counted : n ≡ length pairs
+  pub long : used ≡ length (pairsBytes pairs)
+
+pub scanned-pairs : (p : Parse) (n used : ℕ) → Pairs n used ≡ scannedOf p → PairsOf p n used
+unfolding scannedOf
+scanned-pairs (parsed ps) n used e = record { pairs = ps; is = refl; counted = cc; long = cc }
+scanned-pairs (faulty k) n used e = clash cc
+
+pub scanned-refused : (p : Parse) (k : Error) → Refused k ≡ scannedOf p → p ≡ faulty k
+unfolding scannedOf
+scanned-refused (parsed ps) k e = clash cc
+scanned-refused (faulty j) k e = cc
+
+-- ---- a call
+
+module _ (call : Call) (area : List ℕ) where
+  pub call-misnamed : wellNamed call ≡ false → callArea call area ≡ refuse BadName call area
+  unfolding callArea
+  call-misnamed n = rw n
+
+  pub call-faulty : wellNamed call ≡ true → (e : Error) → parse area ≡ faulty e → callArea call area ≡ refuse e call area
+  unfolding callArea
+  call-faulty n e h = rw (n, h)
+
+  pub call-parsed : wellNamed call ≡ true → (ps : List Pair) → parse area ≡ parsed ps → callArea call area ≡ callPairs call ps area
+  unfolding callArea
+  call-parsed n ps h = rw (n, h)
+
+pub good-told : (name : List ℕ) → Good ≡ nameCheck name → goodName name ≡ true
+unfolding goodName
+good-told name e = ap isGood (sym e)
+
+pub wrong-told : (name : List ℕ) (k : ℕ) → Wrong k ≡ nameCheck name → goodName name ≡ false
+unfolding goodName
+wrong-told name k e = ap isGood (sym e)
+
+-- ---- count
+
+pub count-pairs : (area : List ℕ) (n used : ℕ) → Pairs n used ≡ scannedOf (parse area) → done n ≡ callArea count area .reply
+unfolding wellNamed callPairs
+count-pairs area n used e =
+    let p = scanned-pairs (parse area) n used e in
+    ap done (p .counted) ∙ sym (ap (λ (o : Outcome). o .reply) (call-parsed count area refl (p .pairs) (p .is)))
+
+pub count-refused : (area : List ℕ) (k : Error) → Refused k ≡ scannedOf (parse area) → refused k ≡ callArea count area .reply
+unfolding wellNamed
+count-refused area k e = sym (ap (λ (o : Outcome). o .reply) (call-faulty count area refl k (scanned-refused (parse area) k e)))
+
+-- ---- read
+
+-- a pair that is found stands inside the area
+find-from : (name : List ℕ) (n at : ℕ) (l : List ℕ) (s q e : ℕ) → findFrom n name at l ≡ At s q e → (q + 1 ≤ e) × (e < at + length l)
+unfolding findFrom
+find-from name zero at l s q e h = clash cc
+find-from name (suc n) at l s q e h = go (standAt l) refl h (find-from name n)
+  where
+    go : (x : Stand) → standAt l ≡ x → onFind x name at (λ a r. findFrom n name a r) ≡ At s q e
+        → ((at : ℕ) (l : List ℕ) (s q e : ℕ) → findFrom n name at l ≡ At s q e → (q + 1 ≤ e) × (e < at + length l)) → (q + 1 ≤ e) × (e < at + length l)
+    go finish u f ih = clash cc
+    go cut u f ih = clash cc
+    go (wrongName k) u f ih = clash cc
+    go (wrongEscape k) u f ih = clash cc
+    go (pair m stored next) u f ih =
+        let k : length l ≡ length m + length stored + 2 + length next =
+        ap length (pair-here l m stored next u .is) ∙ simp length-append (omega arith) in
+        split (sameBytes name m)
+        (λ t.
+        let g : At at (at + length m) (at + length m + 1 + length stored) ≡ At s q e = rw t at f in
+        let a : at + length m ≡ q = cc in
+        let b : at + length m + 1 + length stored ≡ e = cc in
+        (omega arith, omega arith))
+        (λ t. let r = ih (at + length m + length stored + 2) next s q e (rw t at f) in (r .0, omega (arith, r .1)))
+
+pub find-inside : (area name : List ℕ) (s q e : ℕ) → At s q e ≡ findAt area name → (q + 1 ≤ e) × (e < length area)
+unfolding findAt
+find-inside area name s q e h = let r = find-from name (suc (length area)) 0 area s q e (sym h) in (r .0, omega (arith, r .1))
+
+-- what a read answers, and the buffer afterwards
+pub record Reads (o : Outcome) (reply : Reply) (buffer : List ℕ) : Type 0 where
+  pub replied : reply ≡ o .reply
+  pub left : buffer ≡ o .buffer
+
+pub reads-as : {o o′ : Outcome} {reply : Reply} {buffer : List ℕ} → o ≡ o′ → Reads o reply buffer → Reads o′ reply buffer
+reads-as e r = record { replied = r .replied ∙ ap (λ (o : Outcome). o .reply) e; left = r .left ∙ ap (λ (o : Outcome). o .buffer) e }
+
+module _ (name buffer area : List ℕ) where
+  pub read-missing : None ≡ findAt area name → Reads (pairRead name buffer area) (refused NoVariable) buffer
+  unfolding pairRead valueAt
+  read-missing h = rw (sym h) (record { replied = refl; left = refl })
+
+  module _ (s q e : ℕ) (h : At s q e ≡ findAt area name) where
+    value-is : pairRead name buffer area ≡ readBy (found (decode (part area (q + 1) e))) name buffer area
+    unfolding pairRead valueAt
+    value-is = rw (sym h)
+
+    pub read-fits : (n : ℕ) (b : List ℕ) → Length n ≡ writtenOf (decode (part area (q + 1) e)) (length buffer)
+        → b ≡ writtenIn (decode (part area (q + 1) e)) buffer → Reads (pairRead name buffer area) (done n) b
+    read-fits n b w i =
+        let v : List ℕ = decode (part area (q + 1) e) in
+        let k = length-told v (length buffer) n (sym w) in
+        let f : length v ≤ length buffer = fits-told v (length buffer) n (sym w) in
+        reads-as (sym value-is)
+        (rw (le-ltb (length buffer) (length v) f) (record { replied = ap done (k .0); left = i ∙ pasted-in v buffer f }))
+
+    pub read-short : (b : List ℕ) → NoRoom ≡ writtenOf (decode (part area (q + 1) e)) (length buffer)
+        → b ≡ writtenIn (decode (part area (q + 1) e)) buffer → Reads (pairRead name buffer area) (refused ShortBuffer) b
+    read-short b w i =
+        let v : List ℕ = decode (part area (q + 1) e) in
+        let f : length buffer < length v = no-room-told v (length buffer) (sym w) in
+        reads-as (sym value-is)
+        (rw (lt-ltb (length buffer) (length v) f) (record { replied = refl; left = i ∙ kept-in v buffer f }))
+
+-- the value at the place that is found is the one that is looked up
+value-found : (area name : List ℕ) (ps : List Pair) → parse area ≡ parsed ps → valueAt area (findAt area name) ≡ lookup name ps
+unfolding valueAt
+value-found area name ps h = go (findAt area name) refl
+  where
+    go : (x : Place) → findAt area name ≡ x → valueAt area x ≡ lookup name ps
+    go None e = sym (find-missing area name ps h e)
+    go (At start equals end) e =
+        let f : FoundAt name ps start equals end = find-found area name ps h start equals end e in
+        ap (λ (l : List ℕ). found (decode l)) (found-stored f (parsed-ended area ps h))
+        ∙ sym (ap (lookup name) (f .pairs) ∙ lookup-split name (f .stored) (f .after) (f .before) (f .fresh))
+
+module _ (name buffer area : List ℕ) where
+  pub read-misnamed : (k : ℕ) → Wrong k ≡ nameCheck name → Reads (callArea (read name buffer) area) (refused BadName) buffer
+  unfolding wellNamed
+  read-misnamed k e = reads-as (sym (call-misnamed (read name buffer) area (wrong-told name k e))) (record { replied = refl; left = refl })
+
+  module _ (g : Good ≡ nameCheck name) where
+    pub read-refused : (k : Error) → Refused k ≡ scannedOf (parse area) → Reads (callArea (read name buffer) area) (refused k) buffer
+    unfolding wellNamed
+    read-refused k e =
+        reads-as (sym (call-faulty (read name buffer) area (good-told name g) k (scanned-refused (parse area) k e))) (record { replied = refl; left = refl })
+
+    pub read-pairs : (n used : ℕ) → Pairs n used ≡ scannedOf (parse area) → pairRead name buffer area ≡ callArea (read name buffer) area
+    unfolding wellNamed callPairs pairRead
+    read-pairs n used e =
+        let p = scanned-pairs (parse area) n used e in
+        ap (λ (l : Lookup). readBy l name buffer area) (value-found area name (p .pairs) (p .is))
+        ∙ sym (call-parsed (read name buffer) area (good-told name g) (p .pairs) (p .is))

@@ -1,0 +1,351 @@
+-- What the edits make of pairs: good pairs stay good, the others keep their places, and none but a set takes more room.
+use Prim.Native.Nat.{ℕ, _+_, _-_, _≤_, _<_}
+use mathlib.Core.Path.{_≡_, refl, sym, ap, _∙_}
+use mathlib.Core.Bool.{Bool, true, false, _||_}
+use mathlib.Core.List.{List, [], _∷_, _++_}
+use mathlib.Core.Logic.{_≢_, _↔_}
+use native.Mathlib.Omega.{arith}
+use lib.ListN.{length, replicate}
+use Rattle.lists.specs.Bytes.{Every, AllBytes, sameBytes}
+use Rattle.lists.proofs.Tests.{split, clash}
+use Rattle.lists.proofs.ListLaws.{every-append, every-replicate}
+use Rattle.lists.proofs.ByteLaws.{same-refl, same-true, same-false}
+use Rattle.names.specs.Rules.{NameByte, NameRule}
+use Rattle.values.specs.Value.{decode}
+use Rattle.values.proofs.DecodeLaws.{spells-exactly, bytes-decode}
+use Rattle.values.proofs.EncodeLaws.{decode-encode, encode-again, spelled-encode, bytes-encode, encode-shortest}
+use Rattle.variables.specs.Area.{Pair, pairOf, pairBytes, pairsBytes, stands}
+use Rattle.variables.specs.Edits.{areaOf, canonicalPair, setPair, removePair, normalizePairs, found, missing, lookup}
+use Rattle.variables.proofs.ParseLaws.{Good, none, more, length-pairs, Read}
+
+-- ---- names among names
+
+pub same-not : (xs ys : List ℕ) → sameBytes xs ys ≡ false → xs ≢ ys
+same-not xs ys e q = clash (cc (same-refl ys))
+
+pub or-false : (a b : Bool) → a || b ≡ false → (a ≡ false) × (b ≡ false)
+or-false true b e = clash (cc)
+or-false false b e = (refl, e)
+
+-- the names of pairs, in order
+abbrev pub names : List Pair → List (List ℕ)
+names [] = []
+names (p ∷ ps) = p .name ∷ names ps
+
+pub stands-not : (name n : List ℕ) (ns : List (List ℕ)) → stands name (n ∷ ns) ≡ false → (sameBytes name n ≡ false) × (stands name ns ≡ false)
+unfolding stands
+stands-not name n ns e = or-false (sameBytes name n) (stands name ns) e
+
+pub not-stands : (name n : List ℕ) (ns : List (List ℕ)) → sameBytes name n ≡ false → stands name ns ≡ false → stands name (n ∷ ns) ≡ false
+unfolding stands
+not-stands name n ns e f = rw (e, f)
+
+pub stands-first : (name n : List ℕ) (ns : List (List ℕ)) → sameBytes name n ≡ true → stands name (n ∷ ns) ≡ true
+unfolding stands
+stands-first name n ns e = rw e
+
+pub stands-other : (name n : List ℕ) (ns : List (List ℕ)) → sameBytes name n ≡ false → stands name (n ∷ ns) ≡ stands name ns
+unfolding stands
+stands-other name n ns e = rw e
+
+stands-more : (name n : List ℕ) (ns : List (List ℕ)) → stands name ns ≡ true → stands name (n ∷ ns) ≡ true
+stands-more name n ns e = split (sameBytes name n) (λ t. stands-first name n ns t) (λ t. stands-other name n ns t ∙ e)
+
+-- ---- the pair of a name, and those before it and after it
+
+pub data Place (name : List ℕ) : List Pair → Type 0 where
+  there : (before : List Pair) (p : Pair) (after : List Pair) → stands name (names before) ≡ false → name ≡ p .name → Place name (before ++ p ∷ after)
+  nowhere : {ps : List Pair} → stands name (names ps) ≡ false → Place name ps
+
+next-place : {name : List ℕ} {ps : List Pair} (q : Pair) → sameBytes name (q .name) ≡ false → Place name ps → Place name (q ∷ ps)
+next-place {name} q t (there before p after h e) = there (q ∷ before) p after (not-stands name (q .name) (names before) t h) e
+next-place {name} {ps} q t (nowhere h) = nowhere (not-stands name (q .name) (names ps) t h)
+
+pub place : (name : List ℕ) (ps : List Pair) → Place name ps
+unfolding stands
+place name [] = nowhere refl
+place name (p ∷ ps) =
+    split (sameBytes name (p .name))
+    (λ t. there [] p ps refl (same-true name (p .name) t))
+    (λ t. next-place p t (place name ps))
+
+-- the first pair has the name
+module _ (name : List ℕ) (p : Pair) (ps : List Pair) (t : sameBytes name (p .name) ≡ true) where
+  pub set-first : (value : List ℕ) → setPair name value (p ∷ ps) ≡ canonicalPair name value ∷ ps
+  unfolding setPair
+  set-first value = rw (t, setPair)
+
+  pub remove-first : removePair name (p ∷ ps) ≡ ps
+  unfolding removePair
+  remove-first = rw (t, removePair)
+
+  pub lookup-first : lookup name (p ∷ ps) ≡ found (decode (p .stored))
+  unfolding lookup
+  lookup-first = rw (t, lookup)
+
+-- the first pair has another
+module _ (name : List ℕ) (p : Pair) (ps : List Pair) (t : sameBytes name (p .name) ≡ false) where
+  pub set-next : (value : List ℕ) → setPair name value (p ∷ ps) ≡ p ∷ setPair name value ps
+  unfolding setPair
+  set-next value = rw (t, setPair)
+
+  pub remove-next : removePair name (p ∷ ps) ≡ p ∷ removePair name ps
+  unfolding removePair
+  remove-next = rw (t, removePair)
+
+  pub lookup-next : lookup name (p ∷ ps) ≡ lookup name ps
+  unfolding lookup
+  lookup-next = rw (t, lookup)
+
+pub stands-between : (name : List ℕ) (before : List Pair) (p : Pair) (after : List Pair) → name ≡ p .name → stands name (names (before ++ p ∷ after)) ≡ true
+stands-between name [] p after e = stands-first name (p .name) (names after) (ap (sameBytes name) (sym e) ∙ same-refl name)
+stands-between name (q ∷ before) p after e = stands-more name (q .name) (names (before ++ p ∷ after)) (stands-between name before p after e)
+
+same-as : {name other : List ℕ} → name ≡ other → sameBytes name other ≡ true
+same-as {name} e = ap (sameBytes name) (sym e) ∙ same-refl name
+
+-- THE OTHERS KEEP THEIR PLACES
+pub set-there : {name : List ℕ} (value : List ℕ) (before : List Pair) (p : Pair) (after : List Pair) → stands name (names before) ≡ false → name ≡ p .name
+    → setPair name value (before ++ p ∷ after) ≡ before ++ canonicalPair name value ∷ after
+set-there {name} value [] p after h e = set-first name p after (same-as e) value
+set-there {name} value (q ∷ before) p after h e =
+    let s = stands-not name (q .name) (names before) h in
+    set-next name q (before ++ p ∷ after) (s .0) value ∙ ap (λ (l : List Pair). q ∷ l) (set-there value before p after (s .1) e)
+
+pub set-nowhere : (name value : List ℕ) (ps : List Pair) → stands name (names ps) ≡ false → setPair name value ps ≡ ps ++ canonicalPair name value ∷ []
+unfolding setPair
+set-nowhere name value [] h = refl
+set-nowhere name value (p ∷ ps) h =
+    let s = stands-not name (p .name) (names ps) h in
+    set-next name p ps (s .0) value ∙ ap (λ (l : List Pair). p ∷ l) (set-nowhere name value ps (s .1))
+
+pub remove-there : {name : List ℕ} (before : List Pair) (p : Pair) (after : List Pair) → stands name (names before) ≡ false → name ≡ p .name
+    → removePair name (before ++ p ∷ after) ≡ before ++ after
+remove-there {name} [] p after h e = remove-first name p after (same-as e)
+remove-there {name} (q ∷ before) p after h e =
+    let s = stands-not name (q .name) (names before) h in
+    remove-next name q (before ++ p ∷ after) (s .0) ∙ ap (λ (l : List Pair). q ∷ l) (remove-there before p after (s .1) e)
+
+pub remove-nowhere : (name : List ℕ) (ps : List Pair) → stands name (names ps) ≡ false → removePair name ps ≡ ps
+unfolding removePair
+remove-nowhere name [] h = refl
+remove-nowhere name (p ∷ ps) h =
+    let s = stands-not name (p .name) (names ps) h in
+    remove-next name p ps (s .0) ∙ ap (λ (l : List Pair). p ∷ l) (remove-nowhere name ps (s .1))
+
+pub names-normalize : (ps : List Pair) → names (normalizePairs ps) ≡ names ps
+unfolding normalizePairs
+names-normalize [] = refl
+names-normalize (p ∷ ps) = ap (λ (l : List (List ℕ)). p .name ∷ l) (names-normalize ps)
+
+-- ---- good pairs stay good
+
+pub good-set : {seen : List (List ℕ)} {ps : List Pair} {name : List ℕ} (value : List ℕ) → NameRule name → stands name seen ≡ false → Good seen ps
+    → Good seen (setPair name value ps)
+unfolding setPair
+good-set value n s none = more n (spelled-encode value) s none
+good-set {name = name} value n s (more {seen = seen} {p = p} {ps = ps} np vp sp g) =
+    split (sameBytes name (p .name))
+    (λ t. rw (set-first name p ps t value) (more n (spelled-encode value) s (rw (← same-true name (p .name) t) at g)))
+    (λ t. rw (set-next name p ps t value) (more np vp sp (good-set value n (not-stands name (p .name) seen t s) g)))
+
+-- fewer names were seen
+pub good-fewer : {seen fewer : List (List ℕ)} {ps : List Pair} → ((n : List ℕ) → stands n seen ≡ false → stands n fewer ≡ false) → Good seen ps
+    → Good fewer ps
+good-fewer f none = none
+good-fewer {fewer = fewer} f (more {seen = seen} {p = p} n v s g) =
+    more n v (f (p .name) s)
+    (good-fewer (λ m e. let q = stands-not m (p .name) seen e in not-stands m (p .name) fewer (q .0) (f m (q .1))) g)
+
+pub good-remove : {seen : List (List ℕ)} {ps : List Pair} (name : List ℕ) → Good seen ps → Good seen (removePair name ps)
+unfolding removePair
+good-remove name none = none
+good-remove name (more {seen = seen} {p = p} {ps = ps} n v s g) =
+    split (sameBytes name (p .name))
+    (λ t. rw (remove-first name p ps t) (good-fewer (λ m e. stands-not m (p .name) seen e .1) g))
+    (λ t. rw (remove-next name p ps t) (more n v s (good-remove name g)))
+
+pub good-normalize : {seen : List (List ℕ)} {ps : List Pair} → Good seen ps → Good seen (normalizePairs ps)
+unfolding normalizePairs
+good-normalize none = none
+good-normalize (more {p = p} n v s g) = more n (spelled-encode (decode (p .stored))) s (good-normalize g)
+
+-- ---- room
+
+pub remove-room : (name : List ℕ) (ps : List Pair) → length (pairsBytes (removePair name ps)) ≤ length (pairsBytes ps)
+unfolding removePair
+remove-room name [] = omega arith
+remove-room name (p ∷ ps) =
+    split (sameBytes name (p .name))
+    (λ t. rw (remove-first name p ps t) (omega (arith, length-pairs p ps)))
+    (λ t. rw (remove-next name p ps t) (omega (arith, length-pairs p ps, length-pairs p (removePair name ps), remove-room name ps)))
+
+-- the bytes of pairs are those of their names and values
+pub every-left : (P : ℕ → Type 0) (s t : List ℕ) → Every P (s ++ t) → Every P s
+every-left P [] t h = tt
+every-left P (x ∷ s) t h = (h .0, every-left P s t (h .1))
+
+pub every-right : (P : ℕ → Type 0) (s t : List ℕ) → Every P (s ++ t) → Every P t
+every-right P [] t h = h
+every-right P (x ∷ s) t h = every-right P s t (h .1)
+
+pub bytes-pair : (name stored rest : List ℕ) → AllBytes (name ++ 0x3D ∷ (stored ++ 0x00 ∷ rest)) → AllBytes stored × AllBytes rest
+bytes-pair name stored rest h =
+    let k = every-right (λ b. b < 256) name (0x3D ∷ (stored ++ 0x00 ∷ rest)) h .1 in
+    (every-left (λ b. b < 256) stored (0x00 ∷ rest) k, every-right (λ b. b < 256) stored (0x00 ∷ rest) k .1)
+
+pub bytes-pairs : (p : Pair) (ps : List Pair) → AllBytes (pairsBytes (p ∷ ps)) → AllBytes (p .stored) × AllBytes (pairsBytes ps)
+unfolding pairsBytes pairBytes
+bytes-pairs p ps h =
+    let k = every-left (λ b. b < 256) (pairBytes p) (pairsBytes ps) h in
+    (bytes-pair (p .name) (p .stored) [] k .0, every-right (λ b. b < 256) (pairBytes p) (pairsBytes ps) h)
+
+pub bytes-read : {area : List ℕ} {ps : List Pair} → AllBytes area → Read area ps → AllBytes (pairsBytes ps)
+bytes-read {area} {ps} h r = every-left (λ b. b < 256) (pairsBytes ps) (0x00 ∷ r .fill) (rw (r .bytes) at h)
+
+-- ---- bytes stay bytes
+
+name-bytes : (name : List ℕ) → Every NameByte name → AllBytes name
+name-bytes [] h = tt
+name-bytes (b ∷ name) h = (omega (arith, h .0 .most), name-bytes name (h .1))
+
+bytes-more : (p : Pair) (ps : List Pair) → NameRule (p .name) → AllBytes (p .stored) → AllBytes (pairsBytes ps) → AllBytes (pairsBytes (p ∷ ps))
+unfolding pairsBytes pairBytes
+bytes-more p ps n s h =
+    every-append (λ b. b < 256) (pairBytes p) (pairsBytes ps)
+    (every-append (λ b. b < 256) (p .name) (0x3D ∷ (p .stored ++ 0x00 ∷ [])) (name-bytes (p .name) (n .each))
+    (omega arith, every-append (λ b. b < 256) (p .stored) (0x00 ∷ []) s (omega arith, tt))) h
+
+pub bytes-set : {seen : List (List ℕ)} {ps : List Pair} {name : List ℕ} (value : List ℕ) → NameRule name → AllBytes value → Good seen ps
+    → AllBytes (pairsBytes ps) → AllBytes (pairsBytes (setPair name value ps))
+unfolding setPair
+bytes-set {name = name} value n v none h = bytes-more (canonicalPair name value) [] n (bytes-encode value v) h
+bytes-set {name = name} value n v (more {p = p} {ps = ps} np vp sp g) h =
+    let b = bytes-pairs p ps h in
+    split (sameBytes name (p .name))
+    (λ t. rw (set-first name p ps t value) (bytes-more (canonicalPair name value) ps n (bytes-encode value v) (b .1)))
+    (λ t. rw (set-next name p ps t value) (bytes-more p (setPair name value ps) np (b .0) (bytes-set value n v g (b .1))))
+
+pub bytes-remove : {seen : List (List ℕ)} {ps : List Pair} (name : List ℕ) → Good seen ps → AllBytes (pairsBytes ps) → AllBytes (pairsBytes (removePair name ps))
+unfolding removePair
+bytes-remove name none h = h
+bytes-remove name (more {p = p} {ps = ps} n v s g) h =
+    let b = bytes-pairs p ps h in
+    split (sameBytes name (p .name))
+    (λ t. rw (remove-first name p ps t) (b .1))
+    (λ t. rw (remove-next name p ps t) (bytes-more p (removePair name ps) n (b .0) (bytes-remove name g (b .1))))
+
+pub bytes-normalize : {seen : List (List ℕ)} {ps : List Pair} → Good seen ps → AllBytes (pairsBytes ps) → AllBytes (pairsBytes (normalizePairs ps))
+unfolding normalizePairs
+bytes-normalize none h = h
+bytes-normalize (more {p = p} {ps = ps} n v s g) h =
+    let b = bytes-pairs p ps h in
+    bytes-more (canonicalPair (p .name) (decode (p .stored))) (normalizePairs ps) n (bytes-encode (decode (p .stored)) (bytes-decode (p .stored) (b .0)))
+    (bytes-normalize g (b .1))
+
+pub bytes-area : (n : ℕ) (ps : List Pair) → AllBytes (pairsBytes ps) → AllBytes (areaOf n ps)
+unfolding areaOf
+bytes-area n ps h =
+    every-append (λ b. b < 256) (pairsBytes ps) (0x00 ∷ replicate (n - (length (pairsBytes ps) + 1)) 0x00) h
+    (omega arith, every-replicate (λ b. b < 256) (n - (length (pairsBytes ps) + 1)) 0x00 (omega arith))
+
+-- NORMALIZING NEVER TAKES MORE ROOM
+pub normalize-room : {seen : List (List ℕ)} {ps : List Pair} → Good seen ps → AllBytes (pairsBytes ps)
+    → length (pairsBytes (normalizePairs ps)) ≤ length (pairsBytes ps)
+unfolding normalizePairs
+normalize-room none h = omega arith
+normalize-room (more {p = p} {ps = ps} n v s g) h =
+    let b = bytes-pairs p ps h in
+    let w = spells-exactly (p .stored) (decode (p .stored)) (b .0) .1 (v, refl) in
+    let q : Pair = canonicalPair (p .name) (decode (p .stored)) in
+    omega (arith, length-pairs p ps, length-pairs q (normalizePairs ps), encode-shortest w, normalize-room g (b .1))
+
+-- ---- values
+
+-- TWICE IS ONCE
+pub normalize-twice : (ps : List Pair) → normalizePairs (normalizePairs ps) ≡ normalizePairs ps
+unfolding normalizePairs
+normalize-twice [] = refl
+normalize-twice (p ∷ ps) = λ i. pairOf (p .name) (encode-again (decode (p .stored)) i) ∷ normalize-twice ps i
+
+pub lookup-normalize : (name : List ℕ) (ps : List Pair) → lookup name (normalizePairs ps) ≡ lookup name ps
+unfolding normalizePairs
+lookup-normalize name [] = refl
+lookup-normalize name (p ∷ ps) =
+    let q : Pair = canonicalPair (p .name) (decode (p .stored)) in
+    split (sameBytes name (p .name))
+    (λ t. lookup-first name q (normalizePairs ps) t ∙ ap found (decode-encode (decode (p .stored))) ∙ sym (lookup-first name p ps t))
+    (λ t. lookup-next name q (normalizePairs ps) t ∙ lookup-normalize name ps ∙ sym (lookup-next name p ps t))
+
+-- A SET GIVES THE VALUE BACK
+pub lookup-set : (name value : List ℕ) (ps : List Pair) → lookup name (setPair name value ps) ≡ found value
+unfolding setPair
+lookup-set name value [] = lookup-first name (canonicalPair name value) [] (same-refl name) ∙ ap found (decode-encode value)
+lookup-set name value (p ∷ ps) =
+    split (sameBytes name (p .name))
+    (λ t. ap (lookup name) (set-first name p ps t value) ∙ lookup-first name (canonicalPair name value) ps (same-refl name) ∙ ap found (decode-encode value))
+    (λ t. ap (lookup name) (set-next name p ps t value) ∙ lookup-next name p (setPair name value ps) t ∙ lookup-set name value ps)
+
+module _ (name other : List ℕ) (apart : other ≢ name) where
+  -- where one pair has the name, its value is not the other's
+  passed : (p : Pair) (ps : List Pair) → sameBytes name (p .name) ≡ true → lookup other (p ∷ ps) ≡ lookup other ps
+  passed p ps t = lookup-next other p ps (same-false other (p .name) (λ e. apart (e ∙ sym (same-true name (p .name) t))))
+
+  ahead : (p : Pair) (ps qs : List Pair) → lookup other ps ≡ lookup other qs → lookup other (p ∷ ps) ≡ lookup other (p ∷ qs)
+  ahead p ps qs e =
+      split (sameBytes other (p .name))
+      (λ t. lookup-first other p ps t ∙ sym (lookup-first other p qs t))
+      (λ t. lookup-next other p ps t ∙ e ∙ sym (lookup-next other p qs t))
+
+  pub lookup-set-other : (value : List ℕ) (ps : List Pair) → lookup other (setPair name value ps) ≡ lookup other ps
+  unfolding setPair
+  lookup-set-other value [] = passed (canonicalPair name value) [] (same-refl name)
+  lookup-set-other value (p ∷ ps) =
+      split (sameBytes name (p .name))
+      (λ t. ap (lookup other) (set-first name p ps t value) ∙ passed (canonicalPair name value) ps (same-refl name) ∙ sym (passed p ps t))
+      (λ t. ap (lookup other) (set-next name p ps t value) ∙ ahead p (setPair name value ps) ps (lookup-set-other value ps))
+
+  pub lookup-remove-other : (ps : List Pair) → lookup other (removePair name ps) ≡ lookup other ps
+  unfolding removePair
+  lookup-remove-other [] = refl
+  lookup-remove-other (p ∷ ps) =
+      split (sameBytes name (p .name))
+      (λ t. ap (lookup other) (remove-first name p ps t) ∙ sym (passed p ps t))
+      (λ t. ap (lookup other) (remove-next name p ps t) ∙ ahead p (removePair name ps) ps (lookup-remove-other ps))
+
+-- a name that was seen does not stand again
+pub good-unseen : {seen : List (List ℕ)} {ps : List Pair} (name : List ℕ) → Good seen ps → stands name seen ≡ true → stands name (names ps) ≡ false
+unfolding stands
+good-unseen name none h = refl
+good-unseen name (more {seen = seen} {p = p} {ps = ps} n v s g) h =
+    split (sameBytes name (p .name))
+    (λ t. clash (cc (same-true name (p .name) t)))
+    (λ t. not-stands name (p .name) (names ps) t (good-unseen name g (stands-more name (p .name) seen h)))
+
+lookup-missing : (name : List ℕ) (ps : List Pair) → stands name (names ps) ≡ false → lookup name ps ≡ missing
+unfolding lookup
+lookup-missing name [] h = refl
+lookup-missing name (p ∷ ps) h =
+    let s = stands-not name (p .name) (names ps) h in
+    lookup-next name p ps (s .0) ∙ lookup-missing name ps (s .1)
+
+missing-lookup : (name : List ℕ) (ps : List Pair) → lookup name ps ≡ missing → stands name (names ps) ≡ false
+unfolding stands
+missing-lookup name [] h = refl
+missing-lookup name (p ∷ ps) h =
+    split (sameBytes name (p .name))
+    (λ t. clash (cc (lookup-first name p ps t)))
+    (λ t. not-stands name (p .name) (names ps) t (missing-lookup name ps (sym (lookup-next name p ps t) ∙ h)))
+
+-- MISSING is what stands nowhere
+pub lookup-missing-exactly : (name : List ℕ) (ps : List Pair) → (lookup name ps ≡ missing) ↔ (stands name (names ps) ≡ false)
+lookup-missing-exactly name ps = (missing-lookup name ps, lookup-missing name ps)
+
+-- A REMOVAL TAKES THE VARIABLE OUT
+pub lookup-remove : {seen : List (List ℕ)} {ps : List Pair} (name : List ℕ) → Good seen ps → lookup name (removePair name ps) ≡ missing
+unfolding removePair lookup
+lookup-remove name none = refl
+lookup-remove name (more {seen = seen} {p = p} {ps = ps} n v s g) =
+    split (sameBytes name (p .name))
+    (λ t. ap (lookup name) (remove-first name p ps t) ∙ lookup-missing name ps (good-unseen name g (stands-first name (p .name) seen t)))
+    (λ t. ap (lookup name) (remove-next name p ps t) ∙ lookup-next name p (removePair name ps) t ∙ lookup-remove name g)

@@ -1,0 +1,17 @@
+pub mod ScanLaws
+pub mod ParseLaws
+pub mod EditLaws
+pub mod EntryLaws
+pub mod LeavesLaws
+pub mod FaultLaws
+pub mod ScanPlaces
+pub mod PairPlaces
+pub mod PairRuns
+pub mod JoinLaws
+pub mod FindPlaces
+pub mod FoundLaws
+pub mod CallPlaces
+pub mod PutLaws
+pub mod SpliceLaws
+pub mod ReplaceLaws
+pub mod NormalizeLaws

@@ -1,0 +1,592 @@
+-- What a scan of a name and of a stored value finds, and what stands where a pair would begin: each outcome, exactly when.
+use Prim.Native.Nat.{ℕ, _+_, _≤_, _<_}
+use mathlib.Core.Path.{_≡_, refl, sym, ap, _∙_}
+use mathlib.Core.Bool.{Bool, true, false}
+use mathlib.Core.List.{List, [], _∷_, _++_, append-nil}
+use mathlib.Core.Logic.{_≢_, _⊎_, inl, inr}
+use native.Mathlib.Omega.{arith}
+use lib.ListN.{length, take, drop, length-append}
+use lib.Seq.{take-append-seam, drop-append-add}
+use lib.Dec.{ltb, eqb}
+use borrow.Author.Tests.{eqb-true, eqb-false, ne-eqb, ltb-true, ltb-false, lt-ltb, le-ltb}
+use Rattle.lists.specs.Bytes.{Every}
+use Rattle.lists.proofs.Tests.{split, clash, and-false}
+use Rattle.names.specs.Name.{nameByte}
+use Rattle.names.specs.Rules.{NameByte, NameRule}
+use Rattle.names.proofs.NameLaws.{name-byte-exactly}
+use Rattle.values.specs.Value.{spelled, spelledFrom}
+use Rattle.variables.specs.Scan.{Scan, ends, bad, short, and, scanName, scanValue, Stand, pair, finish, cut, wrongName, wrongEscape, onValue, onName, standAt}
+use Rattle.variables.specs.Rules.{BadByte, not-allowed, equals-at-once, thirty-second}
+
+-- ---- one byte more
+
+pub and-ends : (b : ℕ) (s : Scan) (bs rest : List ℕ) → and b s ≡ ends bs rest → (t : List ℕ) × (bs ≡ b ∷ t) × (s ≡ ends t rest)
+and-ends b (ends t r) bs rest e = (t, cc, cc)
+and-ends b (bad k) bs rest e = clash (cc)
+and-ends b short bs rest e = clash (cc)
+
+pub and-short : (b : ℕ) (s : Scan) → and b s ≡ short → s ≡ short
+and-short b (ends t r) e = clash (cc)
+and-short b (bad k) e = clash (cc)
+and-short b short e = refl
+
+pub and-bad : (b : ℕ) (s : Scan) (k : ℕ) → and b s ≡ bad k → s ≡ bad k
+and-bad b (ends t r) k e = clash (cc)
+and-bad b (bad j) k e = e
+and-bad b short k e = clash (cc)
+
+bad-is : {i j : ℕ} → bad i ≡ bad j → j ≡ i
+bad-is e = cc
+
+-- ---- a name, byte by byte
+
+pub name-none : (k : ℕ) → scanName k [] ≡ short
+unfolding scanName
+name-none k = refl
+
+pub name-ends : (k : ℕ) (bs : List ℕ) → k ≢ 0 → scanName k (0x3D ∷ bs) ≡ ends [] bs
+unfolding scanName
+name-ends k bs h = rw (ne-eqb k 0 h)
+
+pub name-next : (k b : ℕ) (bs : List ℕ) → NameByte b → k < 31 → scanName k (b ∷ bs) ≡ and b (scanName (k + 1) bs)
+unfolding scanName
+name-next k b bs n h = rw (ne-eqb b 0x3D (n .no-equals), name-byte-exactly b .1 n, lt-ltb k 31 h, scanName)
+
+not-byte : (b : ℕ) → ¬ (NameByte b) → nameByte b ≡ false
+not-byte b q = split (nameByte b) (λ t. absurd (q (name-byte-exactly b .0 t))) (λ t. t)
+
+pub name-wrong : (k b : ℕ) (bs : List ℕ) → BadByte k b → scanName k (b ∷ bs) ≡ bad k
+unfolding scanName
+name-wrong k b bs (not-allowed z n) = rw (ne-eqb b 0x3D z, not-byte b n, scanName)
+name-wrong k b bs (equals-at-once z n) = rw (z, n)
+name-wrong k b bs (thirty-second z n) = rw (ne-eqb b 0x3D z, le-ltb k 31 (omega arith), and-false (nameByte b), scanName)
+
+-- what a byte does after k bytes of a name
+pub data NameStep (k b : ℕ) : Type 0 where
+  equals : b ≡ 0x3D → k ≢ 0 → NameStep k b
+  wrong : BadByte k b → NameStep k b
+  next : NameByte b → k < 31 → NameStep k b
+
+pub name-step : (k b : ℕ) → k ≤ 31 → NameStep k b
+name-step k b h =
+    split (eqb b 0x3D)
+    (λ t. split (eqb k 0) (λ u. wrong (equals-at-once (eqb-true b 0x3D t) (eqb-true k 0 u))) (λ u. equals (eqb-true b 0x3D t) (eqb-false k 0 u)))
+    (λ t. split (nameByte b)
+    (λ u. split (ltb k 31)
+    (λ v. next (name-byte-exactly b .0 u) (ltb-true k 31 v))
+    (λ v. wrong (thirty-second (eqb-false b 0x3D t) (omega (arith, ltb-false k 31 v)))))
+    (λ u. wrong (not-allowed (eqb-false b 0x3D t) (λ n. clash (cc (name-byte-exactly b .1 n))))))
+
+-- ---- a whole name, k bytes of which were read before
+
+pub scan-name-from : (k : ℕ) (name rest : List ℕ) → Every NameByte name → 1 ≤ k + length name → k + length name ≤ 31
+    → scanName k (name ++ 0x3D ∷ rest) ≡ ends name rest
+scan-name-from k [] rest a lo hi = name-ends k rest (omega arith)
+scan-name-from k (b ∷ bs) rest a lo hi =
+    name-next k b (bs ++ 0x3D ∷ rest) (a .0) (omega arith)
+    ∙ ap (and b) (scan-name-from (k + 1) bs rest (a .1) (omega arith) (omega arith))
+
+-- the name that a scan found
+pub record Named (k : ℕ) (bs name rest : List ℕ) : Type 0 where
+  pub bytes : bs ≡ name ++ 0x3D ∷ rest
+  pub allowed : Every NameByte name
+  pub least : 1 ≤ k + length name
+  pub most : k + length name ≤ 31
+
+-- the byte at which a scan of a name stopped
+pub record BadName (k : ℕ) (bs : List ℕ) (j : ℕ) : Type 0 where
+  pub begun : List ℕ
+  pub byte : ℕ
+  pub rest : List ℕ
+  pub bytes : bs ≡ begun ++ byte ∷ rest
+  pub allowed : Every NameByte begun
+  pub place : j ≡ k + length begun
+  pub most : j ≤ 31
+  pub why : BadByte j byte
+
+-- the name that the area's end cuts off
+pub record CutName (k : ℕ) (bs : List ℕ) : Type 0 where
+  pub allowed : Every NameByte bs
+  pub most : k + length bs ≤ 31
+
+named-none : (k b : ℕ) (bs name rest : List ℕ) → k ≤ 31 → b ≡ 0x3D → k ≢ 0 → ends [] bs ≡ ends name rest → Named k (b ∷ bs) name rest
+named-none k b bs name rest h z n e =
+    let q : name ≡ [] = cc in
+    record { bytes = cc; allowed = rw q tt; least = omega arith; most = omega (arith, ap length q) }
+
+named-more : (k b : ℕ) (bs name t rest : List ℕ) → NameByte b → name ≡ b ∷ t → Named (k + 1) bs t rest → Named k (b ∷ bs) name rest
+named-more k b bs name t rest g n r =
+    record { bytes = cc (r .bytes); allowed = rw n (g, r .allowed); least = omega (arith, ap length n); most = omega (arith, ap length n, r .most) }
+
+-- only a good name is found
+pub name-scan-from : (k : ℕ) (bs name rest : List ℕ) → k ≤ 31 → scanName k bs ≡ ends name rest → Named k bs name rest
+name-scan-from k [] name rest h e = clash (cc (name-none k))
+name-scan-from k (b ∷ bs) name rest h e =
+    elim (name-step k b h) [
+      | equals z n ↦ named-none k b bs name rest h z n (sym (name-ends k bs n) ∙ sym (ap (λ (x : ℕ). scanName k (x ∷ bs)) z) ∙ e)
+      | wrong w ↦ clash (cc (name-wrong k b bs w))
+      | next n l ↦
+          let a = and-ends b (scanName (k + 1) bs) name rest (sym (name-next k b bs n l) ∙ e) in
+          named-more k b bs name (a .0) rest n (a .1) (name-scan-from (k + 1) bs (a .0) rest (omega arith) (a .2))
+    ]
+
+bad-here : (k b : ℕ) (bs : List ℕ) (j : ℕ) → k ≤ 31 → BadByte k b → j ≡ k → BadName k (b ∷ bs) j
+bad-here k b bs j h w e =
+    record { begun = []; byte = b; rest = bs; bytes = refl; allowed = tt; place = omega arith; most = omega arith; why = rw e w }
+
+bad-more : (k b : ℕ) (bs : List ℕ) (j : ℕ) → NameByte b → BadName (k + 1) bs j → BadName k (b ∷ bs) j
+bad-more k b bs j g i =
+    record {
+      begun = b ∷ i .begun;
+      byte = i .byte;
+      rest = i .rest;
+      bytes = cc (i .bytes);
+      allowed = (g, i .allowed);
+      place = omega (arith, i .place);
+      most = i .most;
+      why = i .why;
+    }
+
+-- a scan stops only at the first byte that breaks the rule
+pub name-bad-from : (k : ℕ) (bs : List ℕ) (j : ℕ) → k ≤ 31 → scanName k bs ≡ bad j → BadName k bs j
+name-bad-from k [] j h e = clash (cc (name-none k))
+name-bad-from k (b ∷ bs) j h e =
+    elim (name-step k b h) [
+      | equals z n ↦ clash (cc (name-ends k bs n))
+      | wrong w ↦ bad-here k b bs j h w (bad-is (sym (name-wrong k b bs w) ∙ e))
+      | next n l ↦
+          bad-more k b bs j n (name-bad-from (k + 1) bs j (omega arith) (and-bad b (scanName (k + 1) bs) j (sym (name-next k b bs n l) ∙ e)))
+    ]
+
+-- and it stops there
+pub bad-name-from : (k : ℕ) (begun : List ℕ) (b : ℕ) (rest : List ℕ) (j : ℕ) → Every NameByte begun → j ≡ k + length begun → j ≤ 31 → BadByte j b
+    → scanName k (begun ++ b ∷ rest) ≡ bad j
+bad-name-from k [] b rest j a e h w =
+    let q : k ≡ j = omega arith in
+    ap (λ (i : ℕ). scanName i (b ∷ rest)) q ∙ name-wrong j b rest w
+bad-name-from k (x ∷ begun) b rest j a e h w =
+    name-next k x (begun ++ b ∷ rest) (a .0) (omega arith) ∙ ap (and x) (bad-name-from (k + 1) begun b rest j (a .1) (omega arith) h w)
+
+-- the area ends in a name
+pub name-short-from : (k : ℕ) (bs : List ℕ) → k ≤ 31 → scanName k bs ≡ short → CutName k bs
+name-short-from k [] h e = record { allowed = tt; most = omega arith }
+name-short-from k (b ∷ bs) h e =
+    elim (name-step k b h) [
+      | equals z n ↦ clash (cc (name-ends k bs n))
+      | wrong w ↦ clash (cc (name-wrong k b bs w))
+      | next n l ↦
+          let i = name-short-from (k + 1) bs (omega arith) (and-short b (scanName (k + 1) bs) (sym (name-next k b bs n l) ∙ e)) in
+          record { allowed = (n, i .allowed); most = omega (arith, i .most) }
+    ]
+
+pub short-name-from : (k : ℕ) (bs : List ℕ) → Every NameByte bs → k + length bs ≤ 31 → scanName k bs ≡ short
+short-name-from k [] a h = name-none k
+short-name-from k (b ∷ bs) a h = name-next k b bs (a .0) (omega arith) ∙ ap (and b) (short-name-from (k + 1) bs (a .1) (omega arith))
+
+-- A GOOD NAME IS FOUND WHOLE
+pub scan-name : {name : List ℕ} (rest : List ℕ) → NameRule name → scanName 0 (name ++ 0x3D ∷ rest) ≡ ends name rest
+scan-name {name} rest r = scan-name-from 0 name rest (r .each) (omega (arith, r .least)) (omega (arith, r .most))
+
+-- AND ONLY A GOOD NAME IS
+pub name-scan : (bs name rest : List ℕ) → scanName 0 bs ≡ ends name rest → (bs ≡ name ++ 0x3D ∷ rest) × NameRule name
+name-scan bs name rest e =
+    let n = name-scan-from 0 bs name rest (omega arith) e in
+    (n .bytes, record { least = omega (arith, n .least); most = omega (arith, n .most); each = n .allowed })
+
+-- where a scan ended, by places: its bytes, and what follows the byte that ended them
+pub record Ended (bs part rest : List ℕ) : Type 0 where
+  pub taken : part ≡ take (length part) bs
+  pub left : rest ≡ drop (length part + 1) bs
+  pub inside : length part < length bs
+
+ended : (mark : ℕ) (bs part rest : List ℕ) → bs ≡ part ++ mark ∷ rest → Ended bs part rest
+ended mark bs part rest e =
+    record {
+      taken = sym (ap (take (length part)) e ∙ take-append-seam part (mark ∷ rest));
+      left = sym (ap (drop (length part + 1)) e ∙ drop-append-add part (mark ∷ rest) 1);
+      inside = omega (arith, ap length e, length-append part (mark ∷ rest));
+    }
+
+pub name-ended : (bs name rest : List ℕ) → scanName 0 bs ≡ ends name rest → Ended bs name rest
+name-ended bs name rest e = ended 0x3D bs name rest (name-scan bs name rest e .0)
+
+-- ---- a stored value, byte by byte; after: the byte before was an escape's 0xFF
+
+pub value-none : (after : Bool) (k : ℕ) → scanValue after k [] ≡ short
+unfolding scanValue
+value-none true k = refl
+value-none false k = refl
+
+pub value-ends : (k : ℕ) (bs : List ℕ) → scanValue false k (0x00 ∷ bs) ≡ ends [] bs
+unfolding scanValue
+value-ends k bs = refl
+
+pub value-opens : (k : ℕ) (bs : List ℕ) → scanValue false k (0xFF ∷ bs) ≡ and 0xFF (scanValue true (k + 1) bs)
+unfolding scanValue
+value-opens k bs = refl
+
+pub value-plain : (k b : ℕ) (bs : List ℕ) → b ≢ 0x00 → b ≢ 0xFF → scanValue false k (b ∷ bs) ≡ and b (scanValue false (k + 1) bs)
+unfolding scanValue
+value-plain k b bs h₀ h₁ = rw (ne-eqb b 0x00 h₀, ne-eqb b 0xFF h₁, scanValue)
+
+pub value-second : (k c : ℕ) (bs : List ℕ) → c ≢ 0x00 → c ≢ 0x80 → scanValue true k (c ∷ bs) ≡ and c (scanValue false (k + 1) bs)
+unfolding scanValue
+value-second k c bs h₀ h₁ = rw (ne-eqb c 0x00 h₀, ne-eqb c 0x80 h₁, scanValue)
+
+pub value-wrong : (k c : ℕ) (bs : List ℕ) → (c ≡ 0x00) ⊎ (c ≡ 0x80) → scanValue true k (c ∷ bs) ≡ bad k
+unfolding scanValue
+value-wrong k c bs (inl e) = rw e
+value-wrong k c bs (inr e) = rw e
+
+-- what a byte of a stored value does that is not an escape's second
+pub data First (b : ℕ) : Type 0 where
+  ending : b ≡ 0x00 → First b
+  opening : b ≡ 0xFF → First b
+  plain : b ≢ 0x00 → b ≢ 0xFF → First b
+
+pub first-byte : (b : ℕ) → First b
+first-byte b =
+    split (eqb b 0x00) (λ t. ending (eqb-true b 0x00 t))
+    (λ t. split (eqb b 0xFF) (λ u. opening (eqb-true b 0xFF u)) (λ u. plain (eqb-false b 0x00 t) (eqb-false b 0xFF u)))
+
+-- and an escape's second
+pub data Second (c : ℕ) : Type 0 where
+  wrong : (c ≡ 0x00) ⊎ (c ≡ 0x80) → Second c
+  right : c ≢ 0x00 → c ≢ 0x80 → Second c
+
+pub second-byte : (c : ℕ) → Second c
+second-byte c =
+    split (eqb c 0x00) (λ t. wrong (inl (eqb-true c 0x00 t)))
+    (λ t. split (eqb c 0x80) (λ u. wrong (inr (eqb-true c 0x80 u))) (λ u. right (eqb-false c 0x00 t) (eqb-false c 0x80 u)))
+
+-- ---- the same of `spelledFrom`
+
+spelled-plain-from : (b : ℕ) (s : List ℕ) → b ≢ 0x00 → b ≢ 0xFF → spelledFrom false (b ∷ s) ≡ spelledFrom false s
+unfolding spelledFrom
+spelled-plain-from b s h₀ h₁ = rw (ne-eqb b 0xFF h₁, ne-eqb b 0x00 h₀, spelledFrom)
+
+spelled-second : (c : ℕ) (s : List ℕ) → c ≢ 0x00 → c ≢ 0x80 → spelledFrom true (c ∷ s) ≡ spelledFrom false s
+unfolding spelledFrom
+spelled-second c s h₀ h₁ = rw (ne-eqb c 0x00 h₀, ne-eqb c 0x80 h₁)
+
+spelled-opens : (s : List ℕ) → spelledFrom false (0xFF ∷ s) ≡ spelledFrom true s
+unfolding spelledFrom
+spelled-opens s = refl
+
+spelled-zero : (s : List ℕ) → spelledFrom false (0x00 ∷ s) ≡ false
+unfolding spelledFrom
+spelled-zero s = refl
+
+spelled-wrong : (c : ℕ) (s : List ℕ) → (c ≡ 0x00) ⊎ (c ≡ 0x80) → spelledFrom true (c ∷ s) ≡ false
+unfolding spelledFrom
+spelled-wrong c s (inl e) = rw e
+spelled-wrong c s (inr e) = rw e
+
+spelled-cut : spelledFrom true [] ≡ false
+unfolding spelledFrom
+spelled-cut = refl
+
+spelled-none : spelledFrom false [] ≡ true
+unfolding spelledFrom
+spelled-none = refl
+
+-- ---- a whole stored value, k bytes of which were read before
+
+pub scan-value-from : (after : Bool) (k : ℕ) (s rest : List ℕ) → spelledFrom after s ≡ true → scanValue after k (s ++ 0x00 ∷ rest) ≡ ends s rest
+scan-value-from true k [] rest e = clash (cc (spelled-cut))
+scan-value-from false k [] rest e = value-ends k rest
+scan-value-from true k (c ∷ s) rest e =
+    elim (second-byte c) [
+      | wrong w ↦ clash (cc (spelled-wrong c s w))
+      | right h₀ h₁ ↦
+          value-second k c (s ++ 0x00 ∷ rest) h₀ h₁ ∙ ap (and c) (scan-value-from false (k + 1) s rest (sym (spelled-second c s h₀ h₁) ∙ e))
+    ]
+scan-value-from false k (b ∷ s) rest e =
+    elim (first-byte b) [
+      | ending z ↦ clash (cc (spelled-zero s))
+      | opening z ↦
+          let f : spelledFrom true s ≡ true = cc (spelled-opens s) in
+          ap (λ (x : ℕ). scanValue false k (x ∷ (s ++ 0x00 ∷ rest))) z ∙ value-opens k (s ++ 0x00 ∷ rest)
+          ∙ (λ i. and (sym z i) (scan-value-from true (k + 1) s rest f i))
+      | plain h₀ h₁ ↦
+          value-plain k b (s ++ 0x00 ∷ rest) h₀ h₁ ∙ ap (and b) (scan-value-from false (k + 1) s rest (sym (spelled-plain-from b s h₀ h₁) ∙ e))
+    ]
+
+-- the value that a scan found
+pub record Valued (after : Bool) (bs stored rest : List ℕ) : Type 0 where
+  pub bytes : bs ≡ stored ++ 0x00 ∷ rest
+  pub valid : spelledFrom after stored ≡ true
+
+valued-end : (b : ℕ) (bs stored rest : List ℕ) → b ≡ 0x00 → ends [] bs ≡ ends stored rest → Valued false (b ∷ bs) stored rest
+valued-end b bs stored rest z e =
+    let q : stored ≡ [] = cc in
+    record { bytes = cc; valid = rw q spelled-none }
+
+valued-more : (after on : Bool) (b : ℕ) (bs stored t rest : List ℕ) → spelledFrom after (b ∷ t) ≡ spelledFrom on t → stored ≡ b ∷ t
+    → Valued on bs t rest → Valued after (b ∷ bs) stored rest
+valued-more after on b bs stored t rest s q r = record { bytes = cc (r .bytes); valid = rw q (s ∙ r .valid) }
+
+-- only a value that is spelled is found
+pub value-scan-from : (after : Bool) (k : ℕ) (bs stored rest : List ℕ) → scanValue after k bs ≡ ends stored rest → Valued after bs stored rest
+value-scan-from after k [] stored rest e = clash (cc (value-none after k))
+value-scan-from true k (c ∷ bs) stored rest e =
+    elim (second-byte c) [
+      | wrong w ↦ clash (cc (value-wrong k c bs w))
+      | right h₀ h₁ ↦
+          let a = and-ends c (scanValue false (k + 1) bs) stored rest (sym (value-second k c bs h₀ h₁) ∙ e) in
+          valued-more true false c bs stored (a .0) rest (spelled-second c (a .0) h₀ h₁) (a .1) (value-scan-from false (k + 1) bs (a .0) rest (a .2))
+    ]
+value-scan-from false k (b ∷ bs) stored rest e =
+    elim (first-byte b) [
+      | ending z ↦ valued-end b bs stored rest z (sym (value-ends k bs) ∙ sym (ap (λ (x : ℕ). scanValue false k (x ∷ bs)) z) ∙ e)
+      | opening z ↦
+          let a = and-ends b (scanValue true (k + 1) bs) stored rest (cc (value-opens k bs)) in
+          valued-more false true b bs stored (a .0) rest (ap (λ (x : ℕ). spelledFrom false (x ∷ a .0)) z ∙ spelled-opens (a .0)) (a .1)
+          (value-scan-from true (k + 1) bs (a .0) rest (a .2))
+      | plain h₀ h₁ ↦
+          let a = and-ends b (scanValue false (k + 1) bs) stored rest (sym (value-plain k b bs h₀ h₁) ∙ e) in
+          valued-more false false b bs stored (a .0) rest (spelled-plain-from b (a .0) h₀ h₁) (a .1) (value-scan-from false (k + 1) bs (a .0) rest (a .2))
+    ]
+
+-- A VALUE THAT IS SPELLED IS FOUND WHOLE
+pub scan-value : {stored : List ℕ} (k : ℕ) (rest : List ℕ) → spelled stored ≡ true → scanValue false k (stored ++ 0x00 ∷ rest) ≡ ends stored rest
+unfolding spelled
+scan-value {stored} k rest e = scan-value-from false k stored rest e
+
+-- AND ONLY SUCH A VALUE IS
+pub value-scan : (k : ℕ) (bs stored rest : List ℕ) → scanValue false k bs ≡ ends stored rest → (bs ≡ stored ++ 0x00 ∷ rest) × (spelled stored ≡ true)
+unfolding spelled
+value-scan k bs stored rest e = let v = value-scan-from false k bs stored rest e in (v .bytes, v .valid)
+
+pub value-ended : (k : ℕ) (bs stored rest : List ℕ) → scanValue false k bs ≡ ends stored rest → Ended bs stored rest
+value-ended k bs stored rest e = ended 0x00 bs stored rest (value-scan k bs stored rest e .0)
+
+-- ---- a stored value that the area's end cuts off
+
+pub data CutValue (after : Bool) (bs : List ℕ) : Type 0 where
+  whole : spelledFrom after bs ≡ true → CutValue after bs
+  half : (s : List ℕ) → bs ≡ s ++ 0xFF ∷ [] → spelledFrom after s ≡ true → CutValue after bs
+  second : after ≡ true → bs ≡ [] → CutValue after bs
+
+cut-more : (after on : Bool) (b : ℕ) (bs : List ℕ) → ((s : List ℕ) → spelledFrom after (b ∷ s) ≡ spelledFrom on s) → (on ≡ true → (b ≡ 0xFF) × (after ≡ false))
+    → CutValue on bs → CutValue after (b ∷ bs)
+cut-more after on b bs f g (whole v) = whole (f bs ∙ v)
+cut-more after on b bs f g (half s e v) = half (b ∷ s) (cc) (f s ∙ v)
+cut-more after on b bs f g (second t e) =
+    let h = g t in
+    half [] (cc (h .0)) (ap (λ (a : Bool). spelledFrom a []) (h .1) ∙ spelled-none)
+
+pub value-short-from : (after : Bool) (k : ℕ) (bs : List ℕ) → scanValue after k bs ≡ short → CutValue after bs
+value-short-from true k [] e = second refl refl
+value-short-from false k [] e = whole spelled-none
+value-short-from true k (c ∷ bs) e =
+    elim (second-byte c) [
+      | wrong w ↦ clash (cc (value-wrong k c bs w))
+      | right h₀ h₁ ↦
+          cut-more true false c bs (λ s. spelled-second c s h₀ h₁) (λ t. clash (cc))
+          (value-short-from false (k + 1) bs (and-short c (scanValue false (k + 1) bs) (sym (value-second k c bs h₀ h₁) ∙ e)))
+    ]
+value-short-from false k (b ∷ bs) e =
+    elim (first-byte b) [
+      | ending z ↦ clash (cc (value-ends k bs))
+      | opening z ↦
+          cut-more false true b bs (λ s. ap (λ (x : ℕ). spelledFrom false (x ∷ s)) z ∙ spelled-opens s) (λ t. (z, refl))
+          (value-short-from true (k + 1) bs (and-short b (scanValue true (k + 1) bs) (cc (value-opens k bs))))
+      | plain h₀ h₁ ↦
+          cut-more false false b bs (λ s. spelled-plain-from b s h₀ h₁) (λ t. clash (cc))
+          (value-short-from false (k + 1) bs (and-short b (scanValue false (k + 1) bs) (sym (value-plain k b bs h₀ h₁) ∙ e)))
+    ]
+
+-- ---- bytes before a fault are stepped over
+
+-- what a scan finds after bytes that are spelled
+past-value : (after : Bool) (k : ℕ) (s t : List ℕ) (x : Scan) → spelledFrom after s ≡ true → ((b : ℕ) → and b x ≡ x) → scanValue false (k + length s) t ≡ x
+    → scanValue after k (s ++ t) ≡ x
+past-value true k [] t x v f e = clash (cc (spelled-cut))
+past-value false k [] t x v f e =
+    let q : k ≡ k + 0 = omega arith in
+    ap (λ (n : ℕ). scanValue false n t) q ∙ e
+past-value true k (c ∷ s) t x v f e =
+    let q : k + 1 + length s ≡ k + length (c ∷ s) = omega arith in
+    elim (second-byte c) [
+      | wrong w ↦ clash (cc (spelled-wrong c s w))
+      | right h₀ h₁ ↦
+          value-second k c (s ++ t) h₀ h₁
+          ∙ ap (and c) (past-value false (k + 1) s t x (sym (spelled-second c s h₀ h₁) ∙ v) f (ap (λ (n : ℕ). scanValue false n t) q ∙ e)) ∙ f c
+    ]
+past-value false k (b ∷ s) t x v f e =
+    let q : k + 1 + length s ≡ k + length (b ∷ s) = omega arith in
+    elim (first-byte b) [
+      | ending z ↦ clash (cc (spelled-zero s))
+      | opening z ↦
+          let w : spelledFrom true s ≡ true = cc (spelled-opens s) in
+          ap (λ (y : ℕ). scanValue false k (y ∷ (s ++ t))) z ∙ value-opens k (s ++ t)
+          ∙ ap (and 0xFF) (past-value true (k + 1) s t x w f (ap (λ (n : ℕ). scanValue false n t) q ∙ e)) ∙ f 0xFF
+      | plain h₀ h₁ ↦
+          value-plain k b (s ++ t) h₀ h₁
+          ∙ ap (and b) (past-value false (k + 1) s t x (sym (spelled-plain-from b s h₀ h₁) ∙ v) f (ap (λ (n : ℕ). scanValue false n t) q ∙ e)) ∙ f b
+    ]
+
+-- ---- an escape that must not be
+
+pub data BadValue (after : Bool) (k : ℕ) (bs : List ℕ) (j : ℕ) : Type 0 where
+  at-once : (c : ℕ) (rest : List ℕ) → after ≡ true → bs ≡ c ∷ rest → (c ≡ 0x00) ⊎ (c ≡ 0x80) → j ≡ k → BadValue after k bs j
+  later : (stored : List ℕ) (c : ℕ) (rest : List ℕ) → bs ≡ stored ++ 0xFF ∷ c ∷ rest → spelledFrom after stored ≡ true → (c ≡ 0x00) ⊎ (c ≡ 0x80)
+      → j ≡ k + length stored + 1 → BadValue after k bs j
+
+bad-value-more : (after on : Bool) (k b : ℕ) (bs : List ℕ) (j : ℕ) → ((s : List ℕ) → spelledFrom after (b ∷ s) ≡ spelledFrom on s)
+    → (on ≡ true → (b ≡ 0xFF) × (after ≡ false)) → BadValue on (k + 1) bs j → BadValue after k (b ∷ bs) j
+bad-value-more after on k b bs j f g (at-once c rest t e w p) =
+    let h = g t in
+    later [] c rest (cc (h .0)) (ap (λ (a : Bool). spelledFrom a []) (h .1) ∙ spelled-none) w (omega arith)
+bad-value-more after on k b bs j f g (later s c rest e v w p) = later (b ∷ s) c rest (cc) (f s ∙ v) w (omega arith)
+
+pub value-bad-from : (after : Bool) (k : ℕ) (bs : List ℕ) (j : ℕ) → scanValue after k bs ≡ bad j → BadValue after k bs j
+value-bad-from after k [] j e = clash (cc (value-none after k))
+value-bad-from true k (c ∷ bs) j e =
+    elim (second-byte c) [
+      | wrong w ↦ at-once c bs refl refl w (bad-is (sym (value-wrong k c bs w) ∙ e))
+      | right h₀ h₁ ↦
+          bad-value-more true false k c bs j (λ s. spelled-second c s h₀ h₁) (λ t. clash (cc))
+          (value-bad-from false (k + 1) bs j (and-bad c (scanValue false (k + 1) bs) j (sym (value-second k c bs h₀ h₁) ∙ e)))
+    ]
+value-bad-from false k (b ∷ bs) j e =
+    elim (first-byte b) [
+      | ending z ↦ clash (cc (value-ends k bs))
+      | opening z ↦
+          bad-value-more false true k b bs j (λ s. ap (λ (x : ℕ). spelledFrom false (x ∷ s)) z ∙ spelled-opens s) (λ t. (z, refl))
+          (value-bad-from true (k + 1) bs j (and-bad b (scanValue true (k + 1) bs) j (cc (value-opens k bs))))
+      | plain h₀ h₁ ↦
+          bad-value-more false false k b bs j (λ s. spelled-plain-from b s h₀ h₁) (λ t. clash (cc))
+          (value-bad-from false (k + 1) bs j (and-bad b (scanValue false (k + 1) bs) j (sym (value-plain k b bs h₀ h₁) ∙ e)))
+    ]
+
+-- the other way: `short` and `bad`
+pub whole-short : (k : ℕ) (s : List ℕ) → spelled s ≡ true → scanValue false k s ≡ short
+unfolding spelled
+whole-short k s v = ap (scanValue false k) (sym (append-nil s)) ∙ past-value false k s [] short v (λ b. refl) (value-none false (k + length s))
+
+pub half-short : (k : ℕ) (s : List ℕ) → spelled s ≡ true → scanValue false k (s ++ 0xFF ∷ []) ≡ short
+unfolding spelled
+half-short k s v =
+    past-value false k s (0xFF ∷ []) short v (λ b. refl) (value-opens (k + length s) [] ∙ ap (and 0xFF) (value-none true (k + length s + 1)))
+
+pub bad-value : (k : ℕ) (s : List ℕ) (c : ℕ) (rest : List ℕ) → spelled s ≡ true → (c ≡ 0x00) ⊎ (c ≡ 0x80)
+    → scanValue false k (s ++ 0xFF ∷ c ∷ rest) ≡ bad (k + length s + 1)
+unfolding spelled
+bad-value k s c rest v w =
+    past-value false k s (0xFF ∷ c ∷ rest) (bad (k + length s + 1)) v (λ b. refl)
+    (value-opens (k + length s) (c ∷ rest) ∙ ap (and 0xFF) (value-wrong (k + length s + 1) c rest w))
+
+-- ---- what stands where a pair would begin
+
+-- what stands, exactly when; the pieces are those of the rules, and `spelled` says that bytes stand for a value
+pub data Standing : List ℕ → Stand → Type 0 where
+  a-pair : {name stored : List ℕ} (rest : List ℕ) → NameRule name → spelled stored ≡ true
+      → Standing (name ++ 0x3D ∷ (stored ++ 0x00 ∷ rest)) (pair name stored rest)
+  the-end : (rest : List ℕ) → Standing (0x00 ∷ rest) finish
+  cut-name : {begun : List ℕ} → Every NameByte begun → length begun ≤ 31 → Standing begun cut
+  cut-value : {name : List ℕ} (stored : List ℕ) → NameRule name → spelled stored ≡ true → Standing (name ++ 0x3D ∷ stored) cut
+  cut-escape : {name : List ℕ} (stored : List ℕ) → NameRule name → spelled stored ≡ true → Standing (name ++ 0x3D ∷ (stored ++ 0xFF ∷ [])) cut
+  a-wrong-name : {b : ℕ} {begun : List ℕ} (rest : List ℕ) → Every NameByte begun → length begun ≤ 31 → BadByte (length begun) b
+      → (begun ≡ [] → b ≢ 0x00) → Standing (begun ++ b ∷ rest) (wrongName (length begun))
+  a-wrong-escape : {c : ℕ} {name : List ℕ} (stored rest : List ℕ) → NameRule name → spelled stored ≡ true → (c ≡ 0x00) ⊎ (c ≡ 0x80)
+      → Standing (name ++ 0x3D ∷ (stored ++ 0xFF ∷ c ∷ rest)) (wrongEscape (length name + 1 + (length stored + 1)))
+
+-- bytes that do not begin with 0x00
+abbrev Begun : List ℕ → Type 0
+Begun [] = ⊥
+Begun (b ∷ bs) = b ≢ 0x00
+
+name-not-zero : {b : ℕ} → NameByte b → b ≢ 0x00
+name-not-zero {b} n = λ e. omega (arith, n .least)
+
+begun-name : {name : List ℕ} (t : List ℕ) → NameRule name → Begun (name ++ t)
+begun-name {name = []} t r = absurd (omega (arith, r .least))
+begun-name {name = b ∷ bs} t r = name-not-zero (r .each .0)
+
+stand-begun : (bs : List ℕ) → Begun bs → standAt bs ≡ onName (scanName 0 bs)
+unfolding standAt
+stand-begun [] h = absurd h
+stand-begun (b ∷ bs) h = rw (ne-eqb b 0x00 h, standAt)
+
+pub stand-none : standAt [] ≡ cut
+unfolding standAt
+stand-none = refl
+
+pub stand-end : (rest : List ℕ) → standAt (0x00 ∷ rest) ≡ finish
+unfolding standAt
+stand-end rest = refl
+
+stand-named : {name : List ℕ} (t : List ℕ) → NameRule name → standAt (name ++ 0x3D ∷ t) ≡ onValue name (scanValue false 0 t)
+stand-named {name} t r = stand-begun (name ++ 0x3D ∷ t) (begun-name (0x3D ∷ t) r) ∙ ap onName (scan-name t r)
+
+-- WHAT STANDS IS FOUND
+pub standing-stand : {bs : List ℕ} {x : Stand} → Standing bs x → standAt bs ≡ x
+standing-stand (a-pair {name = name} {stored = stored} rest r v) = stand-named (stored ++ 0x00 ∷ rest) r ∙ ap (onValue name) (scan-value 0 rest v)
+standing-stand (the-end rest) = stand-end rest
+standing-stand (cut-name {begun = []} a h) = stand-none
+standing-stand (cut-name {begun = b ∷ bs} a h) =
+    stand-begun (b ∷ bs) (name-not-zero (a .0)) ∙ ap onName (short-name-from 0 (b ∷ bs) a (omega arith))
+standing-stand (cut-value {name = name} stored r v) = stand-named stored r ∙ ap (onValue name) (whole-short 0 stored v)
+standing-stand (cut-escape {name = name} stored r v) = stand-named (stored ++ 0xFF ∷ []) r ∙ ap (onValue name) (half-short 0 stored v)
+standing-stand (a-wrong-name {b = b} {begun = []} rest a h w z) =
+    stand-begun (b ∷ rest) (z refl) ∙ ap onName (bad-name-from 0 [] b rest 0 tt (omega arith) (omega arith) w)
+standing-stand (a-wrong-name {b = b} {begun = x ∷ bs} rest a h w z) =
+    stand-begun (x ∷ (bs ++ b ∷ rest)) (name-not-zero (a .0)) ∙ ap onName (bad-name-from 0 (x ∷ bs) b rest (length (x ∷ bs)) a (omega arith) h w)
+standing-stand (a-wrong-escape {c = c} {name = name} stored rest r v w) =
+    let q : 0 + length stored + 1 ≡ length stored + 1 = omega arith in
+    stand-named (stored ++ 0xFF ∷ c ∷ rest) r ∙ ap (onValue name) (bad-value 0 stored c rest v w) ∙ (λ i. wrongEscape (length name + 1 + q i))
+
+splitScan : {A : Type 0} (s : Scan) → ((t r : List ℕ) → s ≡ ends t r → A) → ((k : ℕ) → s ≡ bad k → A) → (s ≡ short → A) → A
+splitScan (ends t r) f g h = f t r refl
+splitScan (bad k) f g h = g k refl
+splitScan short f g h = h refl
+
+standing-escape : (name t : List ℕ) (k : ℕ) → NameRule name → BadValue false 0 t k → Standing (name ++ 0x3D ∷ t) (wrongEscape (length name + 1 + k))
+unfolding spelled
+standing-escape name t k r (at-once c rest e f w p) = clash (cc)
+standing-escape name t k r (later s c rest e v w p) =
+    let q : k ≡ length s + 1 = omega arith in
+    rw (e, q) (a-wrong-escape s rest r v w)
+
+standing-cut : (name t : List ℕ) → NameRule name → CutValue false t → Standing (name ++ 0x3D ∷ t) cut
+unfolding spelled
+standing-cut name t r (whole v) = cut-value t r v
+standing-cut name t r (half s e v) = rw e (cut-escape s r v)
+standing-cut name t r (second e f) = clash (cc)
+
+standing-value : (name t : List ℕ) → NameRule name → Standing (name ++ 0x3D ∷ t) (onValue name (scanValue false 0 t))
+standing-value name t r =
+    splitScan (scanValue false 0 t)
+    (λ stored rest e. let v = value-scan 0 t stored rest e in rw e (rw (v .0) (a-pair rest r (v .1))))
+    (λ k e. rw e (standing-escape name t k r (value-bad-from false 0 t k e)))
+    (λ e. rw e (standing-cut name t r (value-short-from false 0 t e)))
+
+not-begun-zero : (bs begun : List ℕ) (b : ℕ) (rest : List ℕ) → Begun bs → bs ≡ begun ++ b ∷ rest → begun ≡ [] → b ≢ 0x00
+not-begun-zero [] begun b rest h e y = absurd h
+not-begun-zero (c ∷ bs) begun b rest h e y =
+    λ z. let m : c ≡ b = cc in
+    h (m ∙ z)
+
+standing-wrong : (bs : List ℕ) (k : ℕ) → Begun bs → BadName 0 bs k → Standing bs (wrongName k)
+standing-wrong bs k h b =
+    let q : k ≡ length (b .begun) = omega (arith, b .place) in
+    rw (b .bytes, q)
+    (a-wrong-name {begun = b .begun} (b .rest) (b .allowed) (omega (arith, b .most)) (rw q at (b .why))
+    (not-begun-zero bs (b .begun) (b .byte) (b .rest) h (b .bytes)))
+
+standing-name : (bs : List ℕ) → Begun bs → Standing bs (onName (scanName 0 bs))
+standing-name bs h =
+    splitScan (scanName 0 bs)
+    (λ name t e. let n = name-scan bs name t e in rw e (rw (n .0) (standing-value name t (n .1))))
+    (λ k e. rw e (standing-wrong bs k h (name-bad-from 0 bs k (omega arith) e)))
+    (λ e. let n = name-short-from 0 bs (omega arith) e in rw e (cut-name {begun = bs} (n .allowed) (omega (arith, n .most))))
+
+-- AND ONLY THAT IS
+pub standing : (bs : List ℕ) → Standing bs (standAt bs)
+standing [] = rw stand-none (cut-name {begun = []} tt (omega arith))
+standing (b ∷ bs) =
+    split (eqb b 0x00)
+    (λ t. let z = eqb-true b 0x00 t in rw (z, stand-end) (the-end bs))
+    (λ t. let h = eqb-false b 0x00 t in rw (stand-begun (b ∷ bs) h) (standing-name (b ∷ bs) h))

@@ -1,0 +1,137 @@
+-- Laws of the place where a scan ends: the code's turns, byte by byte, and the pieces that a scan takes off.
+use Prim.Native.Nat.{ℕ, suc, _+_, _-_, _%_, _<_, _≤_}
+use mathlib.Core.Path.{_≡_, refl, sym, ap, _∙_}
+use mathlib.Core.Bool.{Bool, true, false, _||_, and-false}
+use mathlib.Core.List.{List}
+use native.Mathlib.Nat.{sub-self}
+use native.Mathlib.Omega.{arith}
+use lib.Dec.{eqb}
+use lib.ListN.{length, getD, drop, drop-of-length-le}
+use borrow.Author.Tests.{lt-ltb, le-ltb, eq-eqb, ne-eqb, eqb-false}
+use Rattle.lists.proofs.Tests.{split}
+use Rattle.names.specs.Name.{nameByte}
+use Rattle.lists.proofs.ListLaws.{drop-next}
+use Rattle.variables.specs.declared.ScanEnd.the-variants.{At, Wrong, Cut}
+use Rattle.variables.specs.Scan.{Scan, ends, bad, short, and, scanName, scanValue}
+use Rattle.variables.specs.Places.{endOf}
+
+-- one byte more in front
+end-and : (from at b : ℕ) (s : Scan) → endOf from at (and b s) ≡ endOf from (at + 1) s
+unfolding endOf
+end-and from at b (ends bs rest) = let e : at + suc (length bs) ≡ at + 1 + length bs = omega arith in ap At e
+end-and from at b (bad k) = refl
+end-and from at b short = refl
+
+-- the scan of a name that began at `from` has come to i
+pub record NameScan (area : List ℕ) (from i : ℕ) : Type 0 where
+  pub low : from ≤ i
+  pub left : endOf from from (scanName 0 (drop from area)) ≡ endOf from i (scanName (i - from) (drop i area))
+
+pub name-begun : (area : List ℕ) (from : ℕ) → NameScan area from from
+name-begun area from = record { low = omega arith; left = rw (sub-self from) }
+
+module _ {area : List ℕ} {from i : ℕ} (s : NameScan area from i) where
+  pub name-cut : length area ≤ i → Cut ≡ endOf from from (scanName 0 (drop from area))
+  unfolding scanName endOf
+  name-cut h = sym (s .left ∙ rw (drop-of-length-le area h))
+
+  module _ (h : i < length area) where
+    pub name-empty : getD area i 0 ≡ 61 → i ≡ from → Wrong i ≡ endOf from from (scanName 0 (drop from area))
+    unfolding scanName endOf
+    name-empty b e =
+        let z : i - from ≡ 0 = omega arith in
+        let p : from + 0 ≡ i = omega arith in
+        sym (s .left ∙ rw (drop-next area i h, eq-eqb (getD area i 0) 61 b, eq-eqb (i - from) 0 z, scanName) (ap Wrong p))
+
+    pub name-ends : getD area i 0 ≡ 61 → (i ≡ from → ⊥) → At i ≡ endOf from from (scanName 0 (drop from area))
+    unfolding scanName endOf
+    name-ends b e =
+        let p : i + 0 ≡ i = omega arith in
+        let z : i - from ≡ 0 → ⊥ = λ q. e (omega (arith, s .low)) in
+        sym (s .left ∙ rw (drop-next area i h, eq-eqb (getD area i 0) 61 b, ne-eqb (i - from) 0 z, scanName) (ap At p))
+
+    pub name-long : (getD area i 0 ≡ 61 → ⊥) → 31 ≤ i - from → Wrong i ≡ endOf from from (scanName 0 (drop from area))
+    unfolding scanName endOf
+    name-long b e =
+        let p : from + (i - from) ≡ i = omega (arith, s .low) in
+        sym (s .left ∙ rw (drop-next area i h, ne-eqb (getD area i 0) 61 b, le-ltb (i - from) 31 e, and-false (nameByte (getD area i 0)), scanName) (ap Wrong p))
+
+    pub name-wrong : (getD area i 0 ≡ 61 → ⊥) → nameByte (getD area i 0) ≡ false → Wrong i ≡ endOf from from (scanName 0 (drop from area))
+    unfolding scanName endOf
+    name-wrong b e =
+        let p : from + (i - from) ≡ i = omega (arith, s .low) in
+        sym (s .left ∙ rw (drop-next area i h, ne-eqb (getD area i 0) 61 b, e, scanName) (ap Wrong p))
+
+    pub name-next : (getD area i 0 ≡ 61 → ⊥) → nameByte (getD area i 0) ≡ true → i - from < 31 → NameScan area from (i + 1)
+    unfolding scanName
+    name-next b e k =
+        let p : i - from + 1 ≡ i + 1 - from = omega (arith, s .low) in
+        record {
+          low = omega (arith, s .low);
+          left =
+              s .left
+              ∙ rw (drop-next area i h, ne-eqb (getD area i 0) 61 b, e, lt-ltb (i - from) 31 k, scanName)
+              (end-and from i (getD area i 0) (scanName (i - from + 1) (drop (i + 1) area)) ∙ ap (λ (n : ℕ). endOf from (i + 1) (scanName n (drop (i + 1) area))) p);
+        }
+
+-- the scan of a value that began at `from` has come to i
+pub record ValueScan (area : List ℕ) (from : ℕ) (after : Bool) (i : ℕ) : Type 0 where
+  pub low : from ≤ i
+  pub left : endOf from from (scanValue false 0 (drop from area)) ≡ endOf from i (scanValue after (i - from) (drop i area))
+
+pub value-begun : (area : List ℕ) (from : ℕ) → ValueScan area from false from
+value-begun area from = record { low = omega arith; left = rw (sub-self from) }
+
+pub value-cut : {area : List ℕ} {from i : ℕ} {after : Bool} → ValueScan area from after i → length area ≤ i
+    → Cut ≡ endOf from from (scanValue false 0 (drop from area))
+unfolding scanValue endOf
+value-cut {area} {after = true} s h = sym (s .left ∙ rw (drop-of-length-le area h))
+value-cut {area} {after = false} s h = sym (s .left ∙ rw (drop-of-length-le area h))
+
+module _ {area : List ℕ} {from i : ℕ} (s : ValueScan area from false i) (h : i < length area) where
+  pub value-ends : getD area i 0 ≡ 0 → At i ≡ endOf from from (scanValue false 0 (drop from area))
+  unfolding scanValue endOf
+  value-ends b =
+      let p : i + 0 ≡ i = omega arith in
+      sym (s .left ∙ rw (drop-next area i h, eq-eqb (getD area i 0) 0 b, scanValue) (ap At p))
+
+  value-step : (getD area i 0 ≡ 0 → ⊥) → (t : Bool) → eqb (getD area i 0) 255 ≡ t → ValueScan area from t (i + 1)
+  unfolding scanValue
+  value-step b t e =
+      let p : i - from + 1 ≡ i + 1 - from = omega (arith, s .low) in
+      record {
+        low = omega (arith, s .low);
+        left =
+            s .left
+            ∙ rw (drop-next area i h, ne-eqb (getD area i 0) 0 b, e, scanValue)
+            (end-and from i (getD area i 0) (scanValue t (i - from + 1) (drop (i + 1) area)) ∙ ap (λ (n : ℕ). endOf from (i + 1) (scanValue t n (drop (i + 1) area))) p);
+      }
+
+  pub value-next : (getD area i 0 ≡ 0 → ⊥) → (getD area i 0 ≡ 255 → ⊥) → ValueScan area from false (i + 1)
+  value-next b e = value-step b false (ne-eqb (getD area i 0) 255 e)
+
+  pub value-escape : getD area i 0 ≡ 255 → ValueScan area from true (i + 1)
+  value-escape e = value-step (λ z. omega arith) true (eq-eqb (getD area i 0) 255 e)
+
+-- an escape's second byte
+zero-run : (c : ℕ) → c < 256 → c % 128 ≡ 0 → (eqb c 0 || eqb c 128) ≡ true
+zero-run c h e = split (eqb c 0) (λ t. rw t) (λ t. let z : c ≡ 0 → ⊥ = eqb-false c 0 t in rw (t, eq-eqb c 128 (omega arith)))
+
+module _ {area : List ℕ} {from i : ℕ} (s : ValueScan area from true i) (h : i < length area) where
+  pub escape-wrong : getD area i 0 < 256 → getD area i 0 % 128 ≡ 0 → Wrong i ≡ endOf from from (scanValue false 0 (drop from area))
+  unfolding scanValue endOf
+  escape-wrong k b =
+      let p : from + (i - from) ≡ i = omega (arith, s .low) in
+      sym (s .left ∙ rw (drop-next area i h, zero-run (getD area i 0) k b, scanValue) (ap Wrong p))
+
+  pub escape-next : (getD area i 0 % 128 ≡ 0 → ⊥) → ValueScan area from false (i + 1)
+  unfolding scanValue
+  escape-next b =
+      let p : i - from + 1 ≡ i + 1 - from = omega (arith, s .low) in
+      record {
+        low = omega (arith, s .low);
+        left =
+            s .left
+            ∙ rw (drop-next area i h, ne-eqb (getD area i 0) 0 (λ z. b (omega arith)), ne-eqb (getD area i 0) 128 (λ z. b (omega arith)), scanValue)
+            (end-and from i (getD area i 0) (scanValue false (i - from + 1) (drop (i + 1) area)) ∙ ap (λ (n : ℕ). endOf from (i + 1) (scanValue false n (drop (i + 1) area))) p);
+      }

@@ -1,0 +1,72 @@
+-- `variables::read` meets its contract: the name first, then the area, then the pair.
+use mathlib.Core.Path.{_≡_, sym, _∙_}
+use Rattle.names.specs.declared.NameCheck.the-variants.{Good}
+use Rattle.names.specs.Name.{nameCheck}
+use Rattle.variables.specs.Places.{readReply}
+use Rattle.variables.proofs.CallPlaces.{reads-as, read-misnamed, read-refused, read-pairs}
+use borrow.Author.Needs.{needs}
+use Rattle.variables.proofs.read.Statement.{statement}
+use Rattle.variables.proofs.read.Tie as tie
+
+-- the name keeps the rule
+good : (s : tie.After-enum-told2) → Good ≡ nameCheck (s .before .before .before .before .before .before .args .name .now)
+good s = sym (s .enum-told2 .given .1) ∙ s .before .before .check .ensures
+
+check-requires : tie.Need-check-requires
+check-requires c κs = search needs
+
+enum-told : tie.Need-enum-told
+enum-told c = search needs
+
+enum-told-2 : tie.Need-enum-told-2
+enum-told-2 c = search needs
+
+scan-requires : tie.Need-scan-requires
+scan-requires c κs = search needs
+
+enum-known-e : tie.Need-enum-known-e
+enum-known-e c = search needs
+
+enum-told-3 : tie.Need-enum-told-3
+enum-told-3 c = search needs
+
+read-pair-requires : tie.Need-read-pair-requires
+read-pair-requires c κs = search needs
+
+returns : tie.Need-returns
+unfolding readReply
+returns c =
+    let r = read-misnamed _ (c .before .before .before .before .before .before .args .buffer .now) (c .before .before .before .before .before .before .args .area .now) _ (sym (c .enum-told .given .1) ∙ c .before .before .check .ensures) in
+    (r .replied, r .left)
+
+returns-2 : tie.Need-returns-2
+unfolding readReply
+returns-2 c =
+    let r = read-refused _ (c .before .before .before .before .before .before .before .before .before .before .args .buffer .now) _ (good (c .before .before .before .before)) _ (sym (c .before .e .given .1) ∙ c .before .before .before .scan .ensures) in
+    (r .replied, r .left)
+
+same-length : tie.Need-same-length
+same-length c = search needs
+
+returns-3 : tie.Need-returns-3
+returns-3 c =
+    let p = c .before .before .read-pair .ensures in
+    let e = read-pairs _ (c .before .before .before .before .before .before .before .before .before .before .before .before .before .args .buffer .now) _ (good (c .before .before .before .before .before .before .before)) _ _ (sym (c .before .before .before .before .enum-told3 .given .1) ∙ c .before .before .before .before .before .before .scan .ensures) in
+    let r = reads-as e (record { replied = p .0; left = p .1 }) in
+    (r .replied, r .left)
+
+pub read-spec : {M : Type 1} → statement M
+read-spec =
+    tie.close
+    (tie.spec
+    check-requires
+    enum-told
+    enum-told-2
+    scan-requires
+    enum-known-e
+    enum-told-3
+    read-pair-requires
+    returns
+    returns-2
+    same-length
+    returns-3)
