@@ -79,7 +79,7 @@ pub enum Checked {
     Refused(Error),
 }
 
-// The caller's view of `Checked`: code 0 and the number of partitions, or the error's code and offset.
+// The caller's view of `Checked`: code 0 and the partition count, or the error's code and offset.
 pub struct CheckAnswer {
     pub code: u32,
     pub offset: usize,

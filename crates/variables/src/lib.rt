@@ -444,8 +444,8 @@ pub fn normalize(area: &mut [u8]) -> Edited
 {
     match scan(area) {
         Scanned::Pairs { count: _, used: _ } => {
-            let end = normalize_pairs(area);
-            lists::fill(&mut area[end..], 0);
+            let past = normalize_pairs(area);
+            lists::fill(&mut area[past..], 0);
             Edited::Done
         }
         Scanned::Refused(e) => Edited::Refused(e),
