@@ -12,3 +12,4 @@ pub mod TableCalls
 pub mod TableRows
 pub mod TableLaws
 pub mod DemandsLaws
+pub mod CodeLaws

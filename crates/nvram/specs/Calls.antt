@@ -21,9 +21,18 @@ use Rattle.header.specs.declared.Error.the-variants.{
   ShortBuffer,
 }
 use Rattle.header.specs.Errors.{codeOf, offsetOf}
+use Rattle.header.specs.Header.{bytesOf}
 use Rattle.partitions.specs.declared.Found.{Found}
 use Rattle.partitions.specs.declared.Found.the-variants.{At, Refused}
 use Rattle.partitions.specs.Find.{findOf, areaOf}
+use Rattle.variables.specs.declared.Counted.{Counted}
+use Rattle.variables.specs.declared.Counted.the-variants as Counted
+use Rattle.variables.specs.declared.ReadAnswer.{ReadAnswer}
+use Rattle.variables.specs.declared.ReadAnswer.the-variants as ReadAnswer
+use Rattle.variables.specs.declared.Edited.{Edited}
+use Rattle.variables.specs.declared.Edited.the-variants as Edited
+use Rattle.nvram.specs.declared.Span.{Span}
+use Rattle.nvram.specs.declared.Span.the-variants as Span
 use Rattle.variables.specs.Calls.{Call, lent, wellNamed, Reply, done, refused, Outcome, callArea}
 
 -- what the caller sees of a call on variables: code, offset, a length or count, and the buffer afterwards
@@ -95,3 +104,23 @@ runImage (call ∷ calls) image =
     let r : Result = callImage call image in
     let rs : Results = runImage calls (r .image) in
     record { answers = r .told ∷ rs .answers; image = rs .image }
+
+-- ---- the code's answers
+
+-- where the variable area stands
+unfoldable pub areaSpan : Found → Span
+areaSpan (At p) = Span.At (p .offset + 16) (p .offset + bytesOf (p .blocks) .0)
+areaSpan (Refused e) = Span.Refused e
+
+-- the caller's view of each answer
+unfoldable pub countAnswer : Counted → Answer
+countAnswer (Counted.Variables n) = record { code = 0; offset = 0; amount = n; buffer = [] }
+countAnswer (Counted.Refused e) = refusal e []
+
+unfoldable pub readAnswer : ReadAnswer → List ℕ → Answer
+readAnswer (ReadAnswer.Length n) buffer = record { code = 0; offset = 0; amount = n; buffer = buffer }
+readAnswer (ReadAnswer.Refused e) buffer = refusal e buffer
+
+unfoldable pub editAnswer : Edited → Answer
+editAnswer Edited.Done = record { code = 0; offset = 0; amount = 0; buffer = [] }
+editAnswer (Edited.Refused e) = refusal e []

@@ -1,0 +1,66 @@
+use Prim.Native.Nat.{_+_, _≤_}
+use native.Mathlib.Omega.{arith}
+use lib.ListN.{length}
+use denote.Ref.{now}
+use Rattle.partitions.proofs.AreaLaws.{found-part}
+use Rattle.nvram.specs.Calls.{commonName}
+use Rattle.nvram.proofs.CodeLaws.{span-found, span-refused}
+use borrow.Author.Needs.{needs}
+use Rattle.nvram.proofs.common_area.Statement.{statement}
+use Rattle.nvram.proofs.common_area.Tie as tie
+
+-- the partition that was found stands in the image
+inside : (b : tie.After-bytes) → (16 ≤ b .bytes .result .0)
+    × (b .before .before .p .given .0 .0 .offset + b .bytes .result .0 ≤ length (now (b .before .before .before .before .before .before .before .args .image)))
+inside b =
+    let g = b .before .before .p .given in
+    let f = b .before .before .before .before in
+    found-part (now (f .before .before .before .args .image)) 0x70 commonName (f .find .result) (f .find .ensures) (g .0 .0) (g .1) (b .bytes .result) (b .bytes .ensures)
+
+slice-aggregate-find : tie.Need-slice-aggregate-find
+slice-aggregate-find c = search needs
+
+find-requires : tie.Need-find-requires
+find-requires c κs = search needs
+
+enum-known-p : tie.Need-enum-known-p
+enum-known-p c = search needs
+
+bytes-requires : tie.Need-bytes-requires
+bytes-requires c κs = search needs
+
+add-t10 : tie.Need-add-t10
+add-t10 c = omega (arith, inside (c .before))
+
+add-t11 : tie.Need-add-t11
+add-t11 c = omega (arith, inside (c .before .before .before))
+
+enum-known-e : tie.Need-enum-known-e
+enum-known-e c = search needs
+
+returns : tie.Need-returns
+returns c =
+    let b = c .before .before .before in
+    let g = b .before .before .p .given in
+    let f = b .before .before .before .before in
+    span-found (now (c .before .before .before .before .before .before .before .before .before .before .args .image)) 0x70 commonName (f .find .result) (f .find .ensures) (g .0 .0) (g .1) (b .bytes .result) (b .bytes .ensures)
+
+returns-2 : tie.Need-returns-2
+returns-2 c =
+    let g = c .before .e .given in
+    let f = c .before .before .before in
+    span-refused (now (c .before .before .before .before .before .before .args .image)) 0x70 commonName (f .find .result) (f .find .ensures) (g .0 .0) (g .1)
+
+pub common-area-spec : {M : Type 1} → statement M
+common-area-spec =
+    tie.close
+    (tie.spec
+    slice-aggregate-find
+    find-requires
+    enum-known-p
+    bytes-requires
+    add-t10
+    add-t11
+    enum-known-e
+    returns
+    returns-2)
