@@ -124,3 +124,13 @@ readAnswer (ReadAnswer.Refused e) buffer = refusal e buffer
 unfoldable pub editAnswer : Edited → Answer
 editAnswer Edited.Done = record { code = 0; offset = 0; amount = 0; buffer = [] }
 editAnswer (Edited.Refused e) = refusal e []
+
+-- the offset of a refused reply
+abbrev pub replyOffset : Reply → ℕ
+replyOffset (done amount) = 0
+replyOffset (refused e) = offsetOf e
+
+-- 11 goes before another error
+abbrev pub nameFirst : Bool → Error → Error
+nameFirst true e = e
+nameFirst false e = BadName

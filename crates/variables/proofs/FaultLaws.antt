@@ -1,15 +1,16 @@
 -- Numbers 7 to 10: a parse answers a fault exactly when the rules have it, each at the first byte that decides it.
-use Prim.Native.Nat.{ℕ, zero, suc, _+_, _<_}
+use Prim.Native.Nat.{ℕ, zero, suc, _+_, _≤_, _<_}
 use mathlib.Core.Path.{_≡_, refl, sym, ap, _∙_}
 use mathlib.Core.Bool.{true, false}
 use mathlib.Core.List.{List, [], _∷_, _++_}
 use mathlib.Core.Logic.{_⊎_, inl, inr, _↔_}
 use native.Mathlib.Omega.{arith}
-use lib.ListN.{length}
+use lib.ListN.{length, length-append}
 use Rattle.lists.specs.Bytes.{AllBytes, sameBytes}
 use Rattle.lists.proofs.Tests.{split, clash}
 use Rattle.header.specs.declared.Error.{Error}
 use Rattle.header.specs.declared.Error.the-variants.{AreaEnd, StoredName, Escape, Repeated}
+use Rattle.header.specs.Errors.{offsetOf}
 use Rattle.names.specs.Rules.{NameRule}
 use Rattle.values.specs.Value.{spelled, decode}
 use Rattle.values.specs.Rules.{Spells}
@@ -218,3 +219,25 @@ parses-faulty area e b q =
 -- A PARSE IS FAULTY exactly as the rules say
 pub faulty-exactly : (area : List ℕ) (e : Error) → AllBytes area → (parse area ≡ faulty e) ↔ Faulty area e
 faulty-exactly area e b = (parses-faulty area e b, faulty-parses area e)
+
+-- ---- a fault's offset stands in the area
+
+name-inside : {rest : List ℕ} {k : ℕ} → Standing rest (wrongName k) → k ≤ length rest
+name-inside (a-wrong-name {b = b} {begun = begun} rest a h w z) = omega (arith, length-append begun (b ∷ rest))
+
+escape-inside : {rest : List ℕ} {k : ℕ} → Standing rest (wrongEscape k) → k ≤ length rest
+escape-inside (a-wrong-escape {c = c} {name = name} stored rest n v w) =
+    omega (arith, length-append name (0x3D ∷ (stored ++ 0xFF ∷ c ∷ rest)), length-append stored (0xFF ∷ c ∷ rest))
+
+stops-inside : {past at : ℕ} {seen : List (List ℕ)} {rest : List ℕ} {e : Error} → at + length rest ≤ past → Stops past at seen rest e → offsetOf e ≤ past
+stops-inside h (at-end s) = omega arith
+stops-inside h (at-name s) = omega (arith, name-inside s)
+stops-inside h (at-escape s) = omega (arith, escape-inside s)
+stops-inside h (at-pair stored rest n v t) = omega arith
+
+pub fault-inside : (area : List ℕ) (e : Error) → parse area ≡ faulty e → offsetOf e ≤ length area
+unfolding parse
+fault-inside area e q =
+    let f = stopped (suc (length area)) [] 0 (length area) area e (omega arith) q in
+    let l : length area ≡ length (pairsBytes (f .list)) + length (f .rest) = ap length (f .bytes) ∙ length-append (pairsBytes (f .list)) (f .rest) in
+    stops-inside (omega (arith, l, f .offset)) (f .fault)
