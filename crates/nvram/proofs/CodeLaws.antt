@@ -4,7 +4,7 @@ use mathlib.Core.Path.{_≡_, refl, sym, ap, subst, _∙_}
 use mathlib.Core.Bool.{Bool, true, false}
 use mathlib.Core.List.{List, [], _∷_, _++_}
 use native.Mathlib.Omega.{arith}
-use lib.ListN.{length, take, drop}
+use lib.ListN.{length, take, drop, length-take}
 use lib.Dec.{ltb}
 use borrow.Rule.Slice.PartMut.{putMid}
 use Rattle.lists.specs.Bytes.{AllBytes}
@@ -13,7 +13,7 @@ use Rattle.lists.proofs.Tests.{split, clash}
 use Rattle.lists.proofs.PastedLaws.{part-pasted}
 use Rattle.header.specs.declared.Bytes.{Bytes}
 use Rattle.header.specs.declared.Error.{Error}
-use Rattle.header.specs.declared.Error.the-variants.{NoRoom, ShortBuffer}
+use Rattle.header.specs.declared.Error.the-variants.{NoRoom, ShortBuffer, BadName}
 use Rattle.header.specs.Errors.{offsetOf}
 use Rattle.header.specs.Header.{bytesOf}
 use Rattle.partitions.specs.declared.Partition.{Partition}
@@ -27,9 +27,20 @@ use Rattle.variables.specs.Area.{Pair, pairsBytes, parse}
 use Rattle.variables.specs.Edits.{setPair, Lookup, found, missing, lookup}
 use Rattle.variables.specs.Edits as Edits
 use Rattle.variables.specs.Calls.{Call, set, remove, normalize, read, count, lent, wellNamed, Reply, done, refused, Outcome, refuse, edited, pickOutcome, setIn, removeBy, readBy, callPairs, callArea}
+use Rattle.variables.specs.declared.Counted.{Counted}
+use Rattle.variables.specs.declared.Counted.the-variants as Counted
+use Rattle.variables.specs.declared.ReadAnswer.{ReadAnswer}
+use Rattle.variables.specs.declared.ReadAnswer.the-variants as ReadAnswer
+use Rattle.variables.specs.declared.Edited.{Edited}
+use Rattle.variables.specs.declared.Edited.the-variants as Edited
+use Rattle.variables.specs.Places.{countReply, readReply}
+use Rattle.variables.specs.EditPlaces.{editReply}
+use Rattle.names.specs.declared.NameCheck.the-variants.{Good, Wrong}
+use Rattle.names.specs.Name.{nameCheck, goodName}
+use Rattle.variables.proofs.CallPlaces.{good-told, wrong-told}
 use Rattle.variables.proofs.FaultLaws.{fault-inside}
 use Rattle.nvram.specs.Calls.{moved, refusal, answer, commonName, Result, callImage, areaSpan, countAnswer, readAnswer, editAnswer, replyOffset, nameFirst}
-use Rattle.nvram.proofs.CallLaws.{splitFound, splitParse, area-ill-named, area-parsed, area-faulty, image-ill-named, image-refused, call-image}
+use Rattle.nvram.proofs.CallLaws.{splitFound, splitParse, area-ill-named, area-parsed, area-faulty, image-ill-named, image-refused, call-image, image-unfound}
 
 -- the span of the partition that was found
 module _ (I : List ℕ) (signature : ℕ) (name : List ℕ) (f : Found) (ef : f ≡ findOf I signature name) where
@@ -136,3 +147,143 @@ module _ (call : Call) (I : List ℕ) where
       split (wellNamed call)
       (λ w. (λ i. refusal (nameFirst (w i) e) (lent call)) ∙ sym (ap (λ (r : Result). r .told) (image-refused call I w e f)))
       (λ w. (λ i. refusal (nameFirst (w i) e) (lent call)) ∙ sym (ap (λ (r : Result). r .told) (image-ill-named call I w)))
+
+-- ---- the code's answers
+
+-- an edit's answer, moved
+module _ (by : ℕ) (a : Edited) where
+  pub edit-done : a ≡ Edited.Done → editAnswer Edited.Done ≡ answer by (editReply a) []
+  unfolding editAnswer editReply
+  edit-done q = λ i. answer by (editReply (sym q i)) []
+
+  pub edit-moved : (e x : Error) → a ≡ Edited.Refused e → x ≡ moved by e → editAnswer (Edited.Refused x) ≡ answer by (editReply a) []
+  unfolding editAnswer editReply
+  edit-moved e x q m = (λ i. refusal (m i) []) ∙ (λ i. answer by (editReply (sym q i)) [])
+
+  pub edit-offset : (e : Error) → a ≡ Edited.Refused e → replyOffset (editReply a) ≡ offsetOf e
+  unfolding editReply
+  edit-offset e q = λ i. replyOffset (editReply (q i))
+
+-- a bad name goes first
+module _ (name : List ℕ) (e : Error) where
+  pub good-second : Good ≡ nameCheck name → e ≡ nameFirst (goodName name) e
+  good-second q = λ i. nameFirst (sym (good-told name q) i) e
+
+  pub bad-first : (k : ℕ) → Wrong k ≡ nameCheck name → BadName ≡ nameFirst (goodName name) e
+  bad-first k q = λ i. nameFirst (sym (wrong-told name k q) i) e
+
+-- a call that is lent no buffer leaves none
+module _ (call : Call) (l : lent call ≡ []) (b : (ps : List Pair) (area : List ℕ) → callPairs call ps area .buffer ≡ []) (area : List ℕ) where
+  no-buffer : callArea call area .buffer ≡ []
+  no-buffer =
+      split (wellNamed call)
+      (λ w. splitParse (parse area)
+      (λ ps q. ap (λ (o : Outcome). o .buffer) (area-parsed call area w ps q) ∙ b ps area)
+      (λ e q. ap (λ (o : Outcome). o .buffer) (area-faulty call area w e q) ∙ l))
+      (λ w. ap (λ (o : Outcome). o .buffer) (area-ill-named call area w) ∙ l)
+
+set-buffer : (name value : List ℕ) (t : Bool) (ps : List Pair) (area : List ℕ)
+    → pickOutcome t (refuse NoRoom (set name value) area) (edited (Edits.areaOf (length area) ps)) .buffer ≡ []
+set-buffer name value true ps area = refl
+set-buffer name value false ps area = refl
+
+remove-buffer : (name : List ℕ) (l : Lookup) (ps : List Pair) (area : List ℕ) → removeBy l name ps area .buffer ≡ []
+remove-buffer name (found value) ps area = refl
+remove-buffer name missing ps area = refl
+
+-- a set, a removal, normalizing and a count
+pub data Unlent : Call → Type 0 where
+  a-set : (name value : List ℕ) → Unlent (set name value)
+  a-remove : (name : List ℕ) → Unlent (remove name)
+  a-normalize : Unlent normalize
+  a-count : Unlent count
+
+unlent-buffer : {call : Call} → Unlent call → (area : List ℕ) → callArea call area .buffer ≡ []
+unfolding callPairs setIn
+unlent-buffer (a-set name value) area =
+    no-buffer (set name value) refl
+    (λ ps d. set-buffer name value (ltb (length d) (length (pairsBytes (setPair name value ps)) + 1)) (setPair name value ps) d) area
+unlent-buffer (a-remove name) area = no-buffer (remove name) refl (λ ps d. remove-buffer name (lookup name ps) ps d) area
+unlent-buffer a-normalize area = no-buffer normalize refl (λ ps d. refl) area
+unlent-buffer a-count area = no-buffer count refl (λ ps d. refl) area
+
+module _ (I : List ℕ) (s e : ℕ) (k : AreaAt I s e) where
+  -- the area that the call gets
+  abbrev given : List ℕ
+  given = take (e - s) (drop s I)
+
+  pub offset-at : (call : Call) (a : Reply) → a ≡ callArea call given .reply → s + replyOffset a ≤ length I
+  offset-at call a q =
+      let b : length given ≤ e - s = omega (arith, length-take (e - s) (drop s I)) in
+      let i = reply-inside given call in
+      let z = ap replyOffset q in
+      omega (arith, k .order, k .inside)
+
+  pub edit-answer : {call : Call} → Unlent call → (a r : Edited) → editReply a ≡ callArea call given .reply → editAnswer r ≡ answer s (editReply a) []
+      → editAnswer r ≡ callImage call I .told
+  edit-answer {call} u a r q m =
+      m ∙ ((λ i. answer s (q i) (sym (unlent-buffer u given) i)) ∙ answer-at call I s e k)
+
+  pub edit-image : (call : Call) (last : List ℕ) → length last ≡ e - s → last ≡ callArea call given .area → putMid s (e - s) I last ≡ callImage call I .image
+  edit-image call last n q = part-pasted I s e last (k .order) (k .inside) n ∙ (ap (pasted I s) q ∙ image-at call I s e k)
+
+  pub count-done : (a : Counted) (n : ℕ) → countReply a ≡ callArea count given .reply → a ≡ Counted.Variables n
+      → countAnswer (Counted.Variables n) ≡ callImage count I .told
+  unfolding countReply countAnswer
+  count-done a n q h =
+      (λ i. answer s (countReply (sym h i)) []) ∙ ((λ i. answer s (q i) (sym (unlent-buffer a-count given) i)) ∙ answer-at count I s e k)
+
+  pub count-moved : (a : Counted) (x y : Error) → countReply a ≡ callArea count given .reply → a ≡ Counted.Refused x → y ≡ moved s x
+      → countAnswer (Counted.Refused y) ≡ callImage count I .told
+  unfolding countReply countAnswer
+  count-moved a x y q h m =
+      (λ i. refusal (m i) [])
+      ∙ ((λ i. answer s (countReply (sym h i)) []) ∙ ((λ i. answer s (q i) (sym (unlent-buffer a-count given) i)) ∙ answer-at count I s e k))
+
+  pub count-offset : (a : Counted) (x : Error) → countReply a ≡ callArea count given .reply → a ≡ Counted.Refused x → s + offsetOf x ≤ length I
+  unfolding countReply
+  count-offset a x q h = let z = ap (λ (r : Counted). replyOffset (countReply r)) h in omega (arith, offset-at count (countReply a) q)
+
+  module _ (name buffer : List ℕ) (a : ReadAnswer) (q : readReply a ≡ callArea (read name buffer) given .reply) where
+    pub read-done : (n : ℕ) (after : List ℕ) → after ≡ callArea (read name buffer) given .buffer → a ≡ ReadAnswer.Length n
+        → readAnswer (ReadAnswer.Length n) after ≡ callImage (read name buffer) I .told
+    unfolding readReply readAnswer
+    read-done n after b h =
+        (λ i. answer s (readReply (sym h i)) after) ∙ ((λ i. answer s (q i) (b i)) ∙ answer-at (read name buffer) I s e k)
+
+    pub read-moved : (x y : Error) (after : List ℕ) → after ≡ callArea (read name buffer) given .buffer → a ≡ ReadAnswer.Refused x → y ≡ moved s x
+        → readAnswer (ReadAnswer.Refused y) after ≡ callImage (read name buffer) I .told
+    unfolding readReply readAnswer
+    read-moved x y after b h m =
+        (λ i. refusal (m i) after)
+        ∙ ((λ i. answer s (readReply (sym h i)) after) ∙ ((λ i. answer s (q i) (b i)) ∙ answer-at (read name buffer) I s e k))
+
+    pub read-offset : (x : Error) → a ≡ ReadAnswer.Refused x → s + offsetOf x ≤ length I
+    unfolding readReply
+    read-offset x h = let z = ap (λ (r : ReadAnswer). replyOffset (readReply r)) h in omega (arith, offset-at (read name buffer) (readReply a) q)
+
+-- nothing was found
+module _ (I : List ℕ) (e : Error) (f : findOf I 0x70 commonName ≡ Refused e) where
+  pub count-not : countAnswer (Counted.Refused e) ≡ callImage count I .told
+  unfolding countAnswer wellNamed
+  count-not = answer-not count I e f
+
+  pub normalize-not : editAnswer (Edited.Refused e) ≡ callImage normalize I .told
+  unfolding editAnswer wellNamed
+  normalize-not = answer-not normalize I e f
+
+  module _ (name : List ℕ) (x : Error) (q : x ≡ nameFirst (goodName name) e) where
+    pub set-not : (value : List ℕ) → editAnswer (Edited.Refused x) ≡ callImage (set name value) I .told
+    unfolding editAnswer wellNamed
+    set-not value = (λ i. refusal (q i) []) ∙ answer-not (set name value) I e f
+
+    pub remove-not : editAnswer (Edited.Refused x) ≡ callImage (remove name) I .told
+    unfolding editAnswer wellNamed
+    remove-not = (λ i. refusal (q i) []) ∙ answer-not (remove name) I e f
+
+    pub read-not : (buffer : List ℕ) → readAnswer (ReadAnswer.Refused x) buffer ≡ callImage (read name buffer) I .told
+    unfolding readAnswer wellNamed
+    read-not buffer = (λ i. refusal (q i) buffer) ∙ answer-not (read name buffer) I e f
+
+  pub image-not : (call : Call) → I ≡ callImage call I .image
+  image-not call = sym (image-unfound call I e f)

@@ -13,7 +13,11 @@ ghost use Rattle.header.specs.Errors.{offsetOf};
 ghost use Rattle.partitions.specs.Find.{checkOf, indexOf, findOf, areaOf};
 ghost use Rattle.partitions.specs.Answers.{findAnswer};
 ghost use Rattle.variables.specs.Calls as Calls;
-ghost use Rattle.nvram.specs.Calls.{moved, commonName, areaSpan, countAnswer, readAnswer, editAnswer, callFound, callImage};
+ghost use mathlib.Core.List.{[]};
+ghost use Rattle.names.specs.Name.{goodName};
+ghost use Rattle.variables.specs.EditPlaces.{editReply};
+ghost use Rattle.nvram.specs.Calls.{moved, commonName, areaSpan, countAnswer, readAnswer, editAnswer, replyOffset, nameFirst, callImage};
+ghost use Rattle.nvram.specs.Calls.{answer as answerAt};
 
 // The signature of the partition that holds the variables.
 const SIGNATURE: u8 = 0x70;
@@ -96,5 +100,94 @@ fn moved_error(e: Error, by: usize) -> Error
         Error::NoVariable => Error::NoVariable,
         Error::NoRoom => Error::NoRoom,
         Error::ShortBuffer => Error::ShortBuffer,
+    }
+}
+
+// An edit's answer, with its offset in an image whose variable area begins at `by`.
+fn moved_edit(answer: Edited, by: usize) -> Edited
+    requires { ⌜ by + replyOffset (editReply answer) < 2 ^ 64 ⌝ }
+    ensures { λ r. ⌜ editAnswer r ≡ answerAt by (editReply answer) [] ⌝ }
+{
+    match answer {
+        Edited::Done => Edited::Done,
+        Edited::Refused(e) => Edited::Refused(moved_error(e, by)),
+    }
+}
+
+// A bad name goes before an error of the image.
+fn name_first(name: &[u8], e: Error) -> Error
+    ensures { λ r. ⌜ r ≡ nameFirst (goodName (now (name .entry))) e ⌝ }
+{
+    match names::check(name) {
+        NameCheck::Wrong { at: _ } => Error::BadName,
+        NameCheck::Good => e,
+    }
+}
+
+// The number of variables.
+pub fn count(image: &[u8]) -> Counted
+    ensures { λ r. ⌜ countAnswer r ≡ callImage Calls.count (now (image .entry)) .told ⌝ }
+{
+    match common_area(image) {
+        Span::At { start, end } => match variables::count(&image[start..end]) {
+            Counted::Variables(n) => Counted::Variables(n),
+            Counted::Refused(e) => Counted::Refused(moved_error(e, start)),
+        },
+        Span::Refused(e) => Counted::Refused(e),
+    }
+}
+
+// Reads a variable into a buffer: the length of its value, which stands at the buffer's start.
+pub fn read(image: &[u8], name: &[u8], buffer: &mut [u8]) -> ReadAnswer
+    ensures { λ r. ⌜ readAnswer r (now (buffer .exit)) ≡ callImage (Calls.read (now (name .entry)) (now (buffer .entry))) (now (image .entry)) .told ⌝ }
+{
+    match common_area(image) {
+        Span::At { start, end } => match variables::read(&image[start..end], name, buffer) {
+            ReadAnswer::Length(n) => ReadAnswer::Length(n),
+            ReadAnswer::Refused(e) => ReadAnswer::Refused(moved_error(e, start)),
+        },
+        Span::Refused(e) => ReadAnswer::Refused(name_first(name, e)),
+    }
+}
+
+// Sets a variable: its pair is replaced where it stands, or added after the last.
+pub fn set(image: &mut [u8], name: &[u8], value: &[u8]) -> Edited
+    ensures { λ r. ⌜ editAnswer r ≡ callImage (Calls.set (now (name .entry)) (now (value .entry))) (now (image .entry)) .told ⌝ }
+    ensures { λ _. ⌜ now (image .exit) ≡ callImage (Calls.set (now (name .entry)) (now (value .entry))) (now (image .entry)) .image ⌝ }
+{
+    match common_area(image) {
+        Span::At { start, end } => {
+            let answer = variables::set(&mut image[start..end], name, value);
+            moved_edit(answer, start)
+        }
+        Span::Refused(e) => Edited::Refused(name_first(name, e)),
+    }
+}
+
+// Removes a variable: its pair is taken out, and the pairs after it close up.
+pub fn remove(image: &mut [u8], name: &[u8]) -> Edited
+    ensures { λ r. ⌜ editAnswer r ≡ callImage (Calls.remove (now (name .entry))) (now (image .entry)) .told ⌝ }
+    ensures { λ _. ⌜ now (image .exit) ≡ callImage (Calls.remove (now (name .entry))) (now (image .entry)) .image ⌝ }
+{
+    match common_area(image) {
+        Span::At { start, end } => {
+            let answer = variables::remove(&mut image[start..end], name);
+            moved_edit(answer, start)
+        }
+        Span::Refused(e) => Edited::Refused(name_first(name, e)),
+    }
+}
+
+// Makes every value canonical, and zeroes what follows the pairs.
+pub fn normalize(image: &mut [u8]) -> Edited
+    ensures { λ r. ⌜ editAnswer r ≡ callImage Calls.normalize (now (image .entry)) .told ⌝ }
+    ensures { λ _. ⌜ now (image .exit) ≡ callImage Calls.normalize (now (image .entry)) .image ⌝ }
+{
+    match common_area(image) {
+        Span::At { start, end } => {
+            let answer = variables::normalize(&mut image[start..end]);
+            moved_edit(answer, start)
+        }
+        Span::Refused(e) => Edited::Refused(e),
     }
 }

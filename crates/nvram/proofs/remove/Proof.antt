@@ -1,0 +1,79 @@
+use native.Mathlib.Omega.{arith}
+use denote.Ref.{now}
+use Rattle.nvram.proofs.CodeLaws.{AreaAt, span-at, span-not, offset-at, edit-answer, edit-image, image-not, a-remove, remove-not}
+use borrow.Author.Needs.{needs}
+use Rattle.nvram.proofs.remove.Statement.{statement}
+use Rattle.nvram.proofs.remove.Tie as tie
+use Rattle.nvram.proofs.remove.Reads as reads
+use Rattle.nvram.proofs.remove.Lts as lts
+use Rattle.nvram.proofs.common_area.Reads as common-area-reads
+use Rattle.nvram.proofs.moved_edit.Reads as moved-edit-reads
+use Rattle.nvram.proofs.name_first.Reads as name-first-reads
+use Rattle.variables.proofs.remove.Reads as remove-reads
+
+-- where the variable area stands
+area : (c : tie.After-known-told) → AreaAt (now (c .before .before .before .before .before .before .before .args .image)) (c .before .start .given .0 .0) (c .before .start .given .0 .1 .0)
+area c = span-at (now (c .before .before .before .before .before .before .before .args .image)) (c .before .before .before .common-area .result) (c .before .before .before .common-area .ensures) _ _ (c .before .start .given .1)
+
+common-area-requires : tie.Need-common-area-requires
+common-area-requires c κs = search needs
+
+enum-known-start : tie.Need-enum-known-start
+enum-known-start c = search needs
+
+sub-remove : tie.Need-sub-remove
+sub-remove c = omega (arith, area c .order, area c .inside)
+
+part-remove-start : tie.Need-part-remove-start
+part-remove-start c = omega (arith, area c .order, area c .inside)
+
+part-remove-end : tie.Need-part-remove-end
+part-remove-end c = omega (arith, area c .order, area c .inside)
+
+remove-requires : tie.Need-remove-requires
+remove-requires c κs = search needs
+
+moved-edit-requires : tie.Need-moved-edit-requires
+moved-edit-requires c κs =
+    omega (arith, offset-at _ _ _ (area (c .before .before .before .before)) _ _ (c .before .before .remove .ensures .0))
+
+enum-known-e : tie.Need-enum-known-e
+enum-known-e c = search needs
+
+name-first-requires : tie.Need-name-first-requires
+name-first-requires c κs = search needs
+
+same-length : tie.Need-same-length
+same-length c = search needs
+
+returns : tie.Need-returns
+returns c = (
+  edit-answer _ _ _ (area (c .before .before .before .before .before)) (a-remove _) (c .before .before .before .remove .result) (c .moved-edit .result) (c .before .before .before .remove .ensures .0) (c .moved-edit .ensures),
+  edit-image _ _ _ (area (c .before .before .before .before .before)) _ _ (omega arith) (c .before .before .before .remove .ensures .1),
+)
+
+same-length-2 : tie.Need-same-length-2
+same-length-2 c = search needs
+
+returns-2 : tie.Need-returns-2
+returns-2 c =
+    let f = span-not _ (c .before .before .before .before .common-area .result) (c .before .before .before .before .common-area .ensures) _ (c .before .before .e .given .1) in
+    (remove-not _ _ f _ _ (c .name-first .ensures), image-not _ _ f _)
+
+pub remove-spec : {M : Type 1} → statement M
+remove-spec =
+    tie.close
+    (tie.spec
+    common-area-requires
+    enum-known-start
+    sub-remove
+    part-remove-start
+    part-remove-end
+    remove-requires
+    moved-edit-requires
+    enum-known-e
+    name-first-requires
+    same-length
+    returns
+    same-length-2
+    returns-2)
