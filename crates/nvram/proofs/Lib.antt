@@ -13,3 +13,4 @@ pub mod TableRows
 pub mod TableLaws
 pub mod DemandsLaws
 pub mod CodeLaws
+pub mod OnExample
