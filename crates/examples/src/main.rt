@@ -1,9 +1,11 @@
-// Runs example 12 of document 01 and prints what the library answers.
+// Runs example 12, and fills the greatest partition to its last byte; prints what the library answers.
 ghost use mathlib.Core.Path.{_≡_};
 ghost use lib.ListN.{length};
 use header::Blocks;
 use header::Header;
 use libc::STDOUT_FILENO;
+use variables::Edited;
+use variables::ReadAnswer;
 
 // The greatest image: 65,536 blocks.
 const BLOCKS: u32 = 65536;
@@ -19,6 +21,8 @@ fn main() {
     write_check(&image, b"65535 blocks and a zero block: ");
     put_header(&mut image, 1048560, 1);
     write_check(&image, b"65535 and 1 blocks: ");
+    let mut value = blank_image();
+    fill_and_read(&mut image, &mut value);
     put_header(&mut image, 0, BLOCKS);
     write_check(&image, b"65536 blocks in one header: ");
 }
@@ -80,9 +84,70 @@ fn write_check(image: &[u8], title: &[u8]) {
         io::write_all(STDOUT_FILENO, b" partitions\n");
         return;
     }
+    write_refused(answer.code, answer.offset);
+}
+
+// Fills the partition of 65,535 blocks to its last byte with one variable, and reads it back.
+fn fill_and_read(image: &mut [u8], value: &mut [u8]) {
+    lists::fill(value, 85);
+    set_first(image, value, 1048541);
+    set_first(image, value, 1048540);
+    lists::fill(value, 0);
+    read_back(image, value);
+}
+
+// Sets `a` to the first n bytes of a slice, and writes the answer.
+fn set_first(image: &mut [u8], value: &[u8], n: usize) {
+    if value.len() < n {
+        return;
+    }
+    let answer = nvram::set(image, b"a", &value[..n]);
+    io::write_all(STDOUT_FILENO, b"a value of ");
+    io::print_decimal(STDOUT_FILENO, n as u64);
+    io::write_all(STDOUT_FILENO, b" bytes: ");
+    write_edit(answer);
+}
+
+// Reads `a`, and writes how many of its bytes are as they were set.
+fn read_back(image: &[u8], value: &mut [u8]) {
+    match nvram::read(image, b"a", value) {
+        ReadAnswer::Length(n) => {
+            io::print_decimal(STDOUT_FILENO, n as u64);
+            io::write_all(STDOUT_FILENO, b" bytes read back, ");
+            io::print_decimal(STDOUT_FILENO, leading(value, 85) as u64);
+            io::write_all(STDOUT_FILENO, b" of them as set\n");
+        }
+        ReadAnswer::Refused(e) => write_refused(e.code(), e.offset()),
+    }
+}
+
+// How many bytes at a slice's start are b.
+fn leading(s: &[u8], b: u8) -> usize {
+    let mut i = 0;
+    while i < s.len() {
+        if s[i] != b {
+            return i;
+        }
+        i += 1;
+    }
+    i
+}
+
+// Writes an edit's answer.
+fn write_edit(answer: Edited) {
+    match answer {
+        Edited::Done => {
+            io::write_all(STDOUT_FILENO, b"set\n");
+        }
+        Edited::Refused(e) => write_refused(e.code(), e.offset()),
+    }
+}
+
+// Writes a refusal.
+fn write_refused(code: u32, offset: usize) {
     io::write_all(STDOUT_FILENO, b"refused ");
-    io::print_decimal(STDOUT_FILENO, answer.code as u64);
+    io::print_decimal(STDOUT_FILENO, code as u64);
     io::write_all(STDOUT_FILENO, b" at ");
-    io::print_decimal(STDOUT_FILENO, answer.offset as u64);
+    io::print_decimal(STDOUT_FILENO, offset as u64);
     io::write_all(STDOUT_FILENO, b"\n");
 }
