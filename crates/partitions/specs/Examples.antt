@@ -1,14 +1,6 @@
--- Examples 1 to 5 of document 01, proved of the definitions.
+-- The bytes of document 01's examples: the base image E, and the covered bytes of a header.
 use Prim.Native.Nat.{ℕ}
-use mathlib.Core.Path.{_≡_, refl}
 use mathlib.Core.List.{List, [], _∷_}
-use lib.ListN.{take, drop}
-use Rattle.header.specs.declared.Error.the-variants.{ImageLength, ZeroLength, PastEnd}
-use Rattle.header.specs.Checksum.{sumFrom, sumcheck}
-use Rattle.header.specs.Header.{headerAt, nameAt, validityOf, validityAt}
-use Rattle.partitions.specs.declared.Checked.the-variants.{Accepted, Refused}
-use Rattle.partitions.specs.Walk.{allowedLength, partitionOf, pastOf, stepAt, walkFrom, walk}
-use Rattle.partitions.specs.Find.{checkedBy, checkOf}
 
 -- the base image E
 abbrev pub E : List ℕ
@@ -26,32 +18,3 @@ common low =
 abbrev pub freeSpace : List ℕ
 freeSpace =
     0x7F ∷ 0x00 ∷ 0x01 ∷ 0x77 ∷ 0x77 ∷ 0x77 ∷ 0x77 ∷ 0x77 ∷ 0x77 ∷ 0x77 ∷ 0x77 ∷ 0x77 ∷ 0x77 ∷ 0x77 ∷ 0x77 ∷ []
-
-pub record Examples : Type 0 where
-  pub length-2 : sumcheck (common 2) ≡ 0xFD
-  pub length-3 : sumcheck (common 3) ≡ 0xFE
-  pub length-4 : sumcheck (common 4) ≡ 0xFF
-  pub length-5 : sumcheck (common 5) ≡ 0x01
-  pub free-space : sumcheck freeSpace ≡ 0x1A
-  pub two-partitions : checkOf E ≡ Accepted 2
-  pub no-bytes : checkOf [] ≡ Refused ImageLength
-  pub forty-bytes : checkOf (take 40 E) ≡ Refused ImageLength
-  pub first-alone : checkOf (take 32 E) ≡ Accepted 1
-  pub three-blocks : checkOf (0x70 ∷ 0xFD ∷ 0x00 ∷ 0x03 ∷ drop 4 (take 32 E)) ≡ Refused (PastEnd 0)
-  pub no-blocks : checkOf (0x70 ∷ 0xFD ∷ 0x00 ∷ 0x00 ∷ drop 4 (take 32 E)) ≡ Refused (ZeroLength 0)
-
-pub examples : Examples
-unfolding checkOf checkedBy walk walkFrom stepAt allowedLength partitionOf pastOf validityAt validityOf headerAt nameAt sumFrom
-examples = record {
-  length-2 = refl;
-  length-3 = refl;
-  length-4 = refl;
-  length-5 = refl;
-  free-space = refl;
-  two-partitions = refl;
-  no-bytes = refl;
-  forty-bytes = refl;
-  first-alone = refl;
-  three-blocks = refl;
-  no-blocks = refl;
-}

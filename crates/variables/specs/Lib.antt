@@ -4,5 +4,4 @@ pub mod Edits
 pub mod Calls
 pub mod Places
 pub mod Rules
-pub mod Examples
 pub mod EditPlaces
