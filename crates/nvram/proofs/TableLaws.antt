@@ -2,7 +2,7 @@
 use Prim.Native.Nat.{ℕ}
 use mathlib.Core.Path.{_≡_, refl, subst}
 use mathlib.Core.Logic.{_≢_}
-use mathlib.Core.List.{List}
+use mathlib.Core.List.{List, []}
 use Rattle.lists.specs.Bytes.{AllBytes}
 use Rattle.nvram.specs.Table.{Request, Seen, lends, refuses, Answers}
 use Rattle.nvram.specs.Demands.{seen, RequestBytes, Demand1}
@@ -13,10 +13,10 @@ use Rattle.nvram.proofs.TableRows.{seen-row}
 record Untouched (I : List ℕ) (r : Request) (s : Seen) : Type 0 where
   image : s .image ≡ I
   buffer : s .buffer ≡ lends r
-  amount : s .amount ≡ 0
+  told : (s .amount ≡ 0) × (s .header ≡ 0) × (s .blocks ≡ 0) × (s .signature ≡ 0) × (s .part ≡ [])
 
 refused-so : (r : Request) (I : List ℕ) (code offset : ℕ) → Untouched I r (refuses r I code offset)
-refused-so r I code offset = record { image = refl; buffer = refl; amount = refl }
+refused-so r I code offset = record { image = refl; buffer = refl; told = (refl, refl, refl, refl, refl) }
 
 untouched : {I : List ℕ} {r : Request} {s : Seen} → Answers I r s → s .code ≢ 0 → Untouched I r s
 untouched (Answers.eleven k q) n = refused-so _ _ _ _
@@ -51,5 +51,5 @@ demand-1 r I bytes b =
       exactly = λ s. (row-seen I bytes b, λ e. subst (λ (x : Seen). Answers I r x) e a);
       image-kept = λ n. untouched a n .image;
       buffer-kept = λ n. untouched a n .buffer;
-      nothing-told = λ n. untouched a n .amount;
+      nothing-told = λ n. untouched a n .told;
     }

@@ -103,7 +103,8 @@ pub record Demand1 (r : Request) (I : List ℕ) : Type 0 where
   -- every number from 1 up leaves image and buffer as they were, and answers nothing else
   pub image-kept : seen r I .code ≢ 0 → seen r I .image ≡ I
   pub buffer-kept : seen r I .code ≢ 0 → seen r I .buffer ≡ lends r
-  pub nothing-told : seen r I .code ≢ 0 → seen r I .amount ≡ 0
+  pub nothing-told : seen r I .code ≢ 0 → (seen r I .amount ≡ 0) × (seen r I .header ≡ 0) × (seen r I .blocks ≡ 0) × (seen r I .signature ≡ 0)
+      × (seen r I .part ≡ [])
 
 -- DEMAND 2, of an image
 pub record Demand2 (I : List ℕ) : Type 0 where
