@@ -325,7 +325,7 @@ fn replace(
     let size = values::encoded_len(value);
     let room = area.len() - 1 - (used - rest) - start;
     if room < size {
-        return Edited::Refused(Error::NoRoom);
+        return Edited::Refused(Error::NoRoom); // the value alone exceeds the room
     }
     if room - size < name.len() + 2 {
         return Edited::Refused(Error::NoRoom);
