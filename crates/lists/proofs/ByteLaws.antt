@@ -11,7 +11,7 @@ use lib.ListN.{length, getD, take, drop}
 use lib.Seq.{drop-cons}
 use borrow.Author.Tests.{eqb-true, eq-eqb}
 use Rattle.lists.specs.Bytes.{Every, AllBytes, sameBytes}
-use Rattle.lists.proofs.Tests.{split, and-true, and-false}
+use Rattle.lists.proofs.Tests.{split, clash, and-true, and-false}
 
 pub same-refl : (xs : List ℕ) → sameBytes xs xs ≡ true
 unfolding sameBytes
@@ -29,6 +29,9 @@ same-true (x ∷ xs) (y ∷ ys) e =
 
 pub same-false : (xs ys : List ℕ) → xs ≢ ys → sameBytes xs ys ≡ false
 same-false xs ys d = split (sameBytes xs ys) (λ t. absurd (d (same-true xs ys t))) (λ t. t)
+
+pub same-not : (xs ys : List ℕ) → sameBytes xs ys ≡ false → xs ≢ ys
+same-not xs ys e q = clash (cc (same-refl ys))
 
 pub same-longer : (xs ys : List ℕ) → length xs < length ys → sameBytes xs ys ≡ false
 unfolding sameBytes

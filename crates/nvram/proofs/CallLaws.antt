@@ -13,8 +13,10 @@ use Rattle.partitions.specs.declared.Found.the-variants.{At, Refused}
 use Rattle.partitions.specs.Find.{findOf, areaOf}
 use Rattle.variables.specs.Area.{Pair, Parse, parsed, faulty, parse}
 use Rattle.variables.specs.Calls.{Call, lent, wellNamed, Outcome, refuse, callPairs, callArea}
-use Rattle.nvram.specs.Calls.{moved, refusal, answer, commonName, Result, callFound, callImage}
+use Rattle.nvram.specs.Calls.{moved, refusal, answer, Result, callFound, callImage}
 use Rattle.nvram.proofs.AreaInImage.{area-back}
+use Rattle.variables.proofs.CallPlaces.{call-misnamed}
+use Rattle.nvram.specs.Table.{common}
 
 -- case splits that keep the equation
 pub splitFound : {A : Type 0} (f : Found) → ((p : Partition) → f ≡ At p → A) → ((e : Error) → f ≡ Refused e → A) → A
@@ -24,22 +26,6 @@ splitFound (Refused e) g h = h e refl
 pub splitParse : {A : Type 0} (x : Parse) → ((ps : List Pair) → x ≡ parsed ps → A) → ((e : Error) → x ≡ faulty e → A) → A
 splitParse (parsed ps) g h = g ps refl
 splitParse (faulty e) g h = h e refl
-
--- ---- an area
-
-module _ (call : Call) (area : List ℕ) where
-  pub area-ill-named : wellNamed call ≡ false → callArea call area ≡ refuse BadName call area
-  unfolding callArea
-  area-ill-named w = rw w
-
-  module _ (w : wellNamed call ≡ true) where
-    pub area-parsed : (ps : List Pair) → parse area ≡ parsed ps → callArea call area ≡ callPairs call ps area
-    unfolding callArea
-    area-parsed ps r = rw (w, r)
-
-    pub area-faulty : (e : Error) → parse area ≡ faulty e → callArea call area ≡ refuse e call area
-    unfolding callArea
-    area-faulty e r = rw (w, r)
 
 -- ---- an image
 
@@ -52,24 +38,24 @@ module _ (call : Call) (I : List ℕ) where
   unfolding callImage
   image-ill-named w = rw w
 
-  image-named : wellNamed call ≡ true → callImage call I ≡ callFound call I (findOf I 0x70 commonName)
+  image-named : wellNamed call ≡ true → callImage call I ≡ callFound call I (findOf I 0x70 common)
   unfolding callImage
   image-named w = rw w
 
-  pub image-refused : wellNamed call ≡ true → (e : Error) → findOf I 0x70 commonName ≡ Refused e
+  pub image-refused : wellNamed call ≡ true → (e : Error) → findOf I 0x70 common ≡ Refused e
       → callImage call I ≡ record { told = refusal e (lent call); image = I }
   image-refused w e f = image-named w ∙ ap (callFound call I) f
 
   -- A CALL ON AN IMAGE is the call on the area
-  pub call-image : (p : Partition) → findOf I 0x70 commonName ≡ At p → callImage call I ≡ lifted I p (callArea call (areaOf I (At p)))
+  pub call-image : (p : Partition) → findOf I 0x70 common ≡ At p → callImage call I ≡ lifted I p (callArea call (areaOf I (At p)))
   unfolding moved
   call-image p e =
       split (wellNamed call) (λ w. image-named w ∙ ap (callFound call I) e)
-      (λ w. image-ill-named w ∙ (λ i. record { told = refusal BadName (lent call); image = sym (area-back I 0x70 commonName p e) i })
-      ∙ ap (lifted I p) (sym (area-ill-named call (areaOf I (At p)) w)))
+      (λ w. image-ill-named w ∙ (λ i. record { told = refusal BadName (lent call); image = sym (area-back I 0x70 common p e) i })
+      ∙ ap (lifted I p) (sym (call-misnamed call (areaOf I (At p)) w)))
 
   -- where nothing is found, the image stays
-  pub image-unfound : (e : Error) → findOf I 0x70 commonName ≡ Refused e → callImage call I .image ≡ I
+  pub image-unfound : (e : Error) → findOf I 0x70 common ≡ Refused e → callImage call I .image ≡ I
   image-unfound e f =
       split (wellNamed call)
       (λ w. ap (λ (r : Result). r .image) (image-refused w e f))

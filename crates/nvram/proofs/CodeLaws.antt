@@ -37,10 +37,11 @@ use Rattle.variables.specs.Places.{countReply, readReply}
 use Rattle.variables.specs.EditPlaces.{editReply}
 use Rattle.names.specs.declared.NameCheck.the-variants.{Good, Wrong}
 use Rattle.names.specs.Name.{nameCheck, goodName}
-use Rattle.variables.proofs.CallPlaces.{good-told, wrong-told}
+use Rattle.variables.proofs.CallPlaces.{good-told, wrong-told, call-misnamed, call-faulty, call-parsed}
 use Rattle.variables.proofs.FaultLaws.{fault-inside}
-use Rattle.nvram.specs.Calls.{moved, refusal, answer, commonName, Result, callImage, areaSpan, countAnswer, readAnswer, editAnswer, replyOffset, nameFirst}
-use Rattle.nvram.proofs.CallLaws.{splitFound, splitParse, area-ill-named, area-parsed, area-faulty, image-ill-named, image-refused, call-image, image-unfound}
+use Rattle.nvram.specs.Calls.{moved, refusal, answer, Result, callImage, areaSpan, countAnswer, readAnswer, editAnswer, replyOffset, nameFirst}
+use Rattle.nvram.proofs.CallLaws.{splitFound, splitParse, image-ill-named, image-refused, call-image, image-unfound}
+use Rattle.nvram.specs.Table.{common}
 
 -- the span of the partition that was found
 module _ (I : List ℕ) (signature : ℕ) (name : List ℕ) (f : Found) (ef : f ≡ findOf I signature name) where
@@ -56,21 +57,21 @@ module _ (I : List ℕ) (signature : ℕ) (name : List ℕ) (f : Found) (ef : f 
 -- the variable area stands from s up to e
 pub record AreaAt (I : List ℕ) (s e : ℕ) : Type 0 where
   pub partition : Partition
-  pub found : findOf I 0x70 commonName ≡ At partition
+  pub found : findOf I 0x70 common ≡ At partition
   pub start : partition .offset + 16 ≡ s
   pub order : s ≤ e
   pub inside : e ≤ length I
   pub bytes : areaOf I (At partition) ≡ take (e - s) (drop s I)
 
-module _ (I : List ℕ) (r : Span) (er : r ≡ areaSpan (findOf I 0x70 commonName)) where
+module _ (I : List ℕ) (r : Span) (er : r ≡ areaSpan (findOf I 0x70 common)) where
   pub span-at : (s e : ℕ) → r ≡ Span.At s e → AreaAt I s e
   unfolding areaSpan
-  span-at s e h = splitFound (findOf I 0x70 commonName)
+  span-at s e h = splitFound (findOf I 0x70 common)
       (λ p k.
       let q : Span.At (p .offset + 16) (p .offset + bytesOf (p .blocks) .0) ≡ Span.At s e = ap areaSpan (sym k) ∙ (sym er ∙ h) in
       let a : p .offset + 16 ≡ s = cc in
       let b : p .offset + bytesOf (p .blocks) .0 ≡ e = cc in
-      let n = found-part I 0x70 commonName (At p) (sym k) p refl (bytesOf (p .blocks)) refl in
+      let n = found-part I 0x70 common (At p) (sym k) p refl (bytesOf (p .blocks)) refl in
       record {
         partition = p;
         found = k;
@@ -79,13 +80,13 @@ module _ (I : List ℕ) (r : Span) (er : r ≡ areaSpan (findOf I 0x70 commonNam
         inside = omega arith;
         bytes =
             ap (areaOf I) (sym k)
-            ∙ (sym (found-area I 0x70 commonName (At p) (sym k) p refl (bytesOf (p .blocks)) refl) ∙ (λ i. take (b i - a i) (drop (a i) I)));
+            ∙ (sym (found-area I 0x70 common (At p) (sym k) p refl (bytesOf (p .blocks)) refl) ∙ (λ i. take (b i - a i) (drop (a i) I)));
       })
       (λ x k. let q = ap areaSpan (sym k) ∙ (sym er ∙ h) in clash (cc))
 
-  pub span-not : (e : Error) → r ≡ Span.Refused e → findOf I 0x70 commonName ≡ Refused e
+  pub span-not : (e : Error) → r ≡ Span.Refused e → findOf I 0x70 common ≡ Refused e
   unfolding areaSpan
-  span-not e h = splitFound (findOf I 0x70 commonName)
+  span-not e h = splitFound (findOf I 0x70 common)
       (λ p k. let q = ap areaSpan (sym k) ∙ (sym er ∙ h) in clash (cc))
       (λ x k. let q = ap areaSpan (sym k) ∙ (sym er ∙ h) in let z : x ≡ e = cc in k ∙ ap Refused z)
 
@@ -124,9 +125,9 @@ module _ (area : List ℕ) where
   reply-inside call =
       split (wellNamed call)
       (λ w. splitParse (parse area)
-      (λ ps q. let z = ap (λ (o : Outcome). replyOffset (o .reply)) (area-parsed call area w ps q) ∙ pairs-place call ps in omega arith)
-      (λ e q. let z = ap (λ (o : Outcome). replyOffset (o .reply)) (area-faulty call area w e q) in omega (arith, fault-inside area e q)))
-      (λ w. let z = ap (λ (o : Outcome). replyOffset (o .reply)) (area-ill-named call area w) in omega arith)
+      (λ ps q. let z = ap (λ (o : Outcome). replyOffset (o .reply)) (call-parsed call area w ps q) ∙ pairs-place call ps in omega arith)
+      (λ e q. let z = ap (λ (o : Outcome). replyOffset (o .reply)) (call-faulty call area w e q) in omega (arith, fault-inside area e q)))
+      (λ w. let z = ap (λ (o : Outcome). replyOffset (o .reply)) (call-misnamed call area w) in omega arith)
 
 -- ---- the answer and the image, by where the area stands
 
@@ -142,7 +143,7 @@ module _ (call : Call) (I : List ℕ) where
         sym (ap (λ (r : Result). r .image) (call-image call I (k .partition) (k .found))
         ∙ (λ i. pasted I (k .start i) (callArea call (k .bytes i) .area)))
 
-  pub answer-not : (e : Error) → findOf I 0x70 commonName ≡ Refused e → refusal (nameFirst (wellNamed call) e) (lent call) ≡ callImage call I .told
+  pub answer-not : (e : Error) → findOf I 0x70 common ≡ Refused e → refusal (nameFirst (wellNamed call) e) (lent call) ≡ callImage call I .told
   answer-not e f =
       split (wellNamed call)
       (λ w. (λ i. refusal (nameFirst (w i) e) (lent call)) ∙ sym (ap (λ (r : Result). r .told) (image-refused call I w e f)))
@@ -178,9 +179,9 @@ module _ (call : Call) (l : lent call ≡ []) (b : (ps : List Pair) (area : List
   no-buffer =
       split (wellNamed call)
       (λ w. splitParse (parse area)
-      (λ ps q. ap (λ (o : Outcome). o .buffer) (area-parsed call area w ps q) ∙ b ps area)
-      (λ e q. ap (λ (o : Outcome). o .buffer) (area-faulty call area w e q) ∙ l))
-      (λ w. ap (λ (o : Outcome). o .buffer) (area-ill-named call area w) ∙ l)
+      (λ ps q. ap (λ (o : Outcome). o .buffer) (call-parsed call area w ps q) ∙ b ps area)
+      (λ e q. ap (λ (o : Outcome). o .buffer) (call-faulty call area w e q) ∙ l))
+      (λ w. ap (λ (o : Outcome). o .buffer) (call-misnamed call area w) ∙ l)
 
 set-buffer : (name value : List ℕ) (t : Bool) (ps : List Pair) (area : List ℕ)
     → pickOutcome t (refuse NoRoom (set name value) area) (edited (Edits.areaOf (length area) ps)) .buffer ≡ []
@@ -192,20 +193,20 @@ remove-buffer name (found value) ps area = refl
 remove-buffer name missing ps area = refl
 
 -- a set, a removal, normalizing and a count
-pub data Unlent : Call → Type 0 where
-  a-set : (name value : List ℕ) → Unlent (set name value)
-  a-remove : (name : List ℕ) → Unlent (remove name)
-  a-normalize : Unlent normalize
-  a-count : Unlent count
+pub data Bufferless : Call → Type 0 where
+  a-set : (name value : List ℕ) → Bufferless (set name value)
+  a-remove : (name : List ℕ) → Bufferless (remove name)
+  a-normalize : Bufferless normalize
+  a-count : Bufferless count
 
-unlent-buffer : {call : Call} → Unlent call → (area : List ℕ) → callArea call area .buffer ≡ []
+buffer-none : {call : Call} → Bufferless call → (area : List ℕ) → callArea call area .buffer ≡ []
 unfolding callPairs setIn
-unlent-buffer (a-set name value) area =
+buffer-none (a-set name value) area =
     no-buffer (set name value) refl
     (λ ps d. set-buffer name value (ltb (length d) (length (pairsBytes (setPair name value ps)) + 1)) (setPair name value ps) d) area
-unlent-buffer (a-remove name) area = no-buffer (remove name) refl (λ ps d. remove-buffer name (lookup name ps) ps d) area
-unlent-buffer a-normalize area = no-buffer normalize refl (λ ps d. refl) area
-unlent-buffer a-count area = no-buffer count refl (λ ps d. refl) area
+buffer-none (a-remove name) area = no-buffer (remove name) refl (λ ps d. remove-buffer name (lookup name ps) ps d) area
+buffer-none a-normalize area = no-buffer normalize refl (λ ps d. refl) area
+buffer-none a-count area = no-buffer count refl (λ ps d. refl) area
 
 module _ (I : List ℕ) (s e : ℕ) (k : AreaAt I s e) where
   -- the area that the call gets
@@ -219,10 +220,10 @@ module _ (I : List ℕ) (s e : ℕ) (k : AreaAt I s e) where
       let z = ap replyOffset q in
       omega (arith, k .order, k .inside)
 
-  pub edit-answer : {call : Call} → Unlent call → (a r : Edited) → editReply a ≡ callArea call given .reply → editAnswer r ≡ answer s (editReply a) []
+  pub edit-answer : {call : Call} → Bufferless call → (a r : Edited) → editReply a ≡ callArea call given .reply → editAnswer r ≡ answer s (editReply a) []
       → editAnswer r ≡ callImage call I .told
   edit-answer {call} u a r q m =
-      m ∙ ((λ i. answer s (q i) (sym (unlent-buffer u given) i)) ∙ answer-at call I s e k)
+      m ∙ ((λ i. answer s (q i) (sym (buffer-none u given) i)) ∙ answer-at call I s e k)
 
   pub edit-image : (call : Call) (last : List ℕ) → length last ≡ e - s → last ≡ callArea call given .area → putMid s (e - s) I last ≡ callImage call I .image
   edit-image call last n q = part-pasted I s e last (k .order) (k .inside) n ∙ (ap (pasted I s) q ∙ image-at call I s e k)
@@ -231,14 +232,14 @@ module _ (I : List ℕ) (s e : ℕ) (k : AreaAt I s e) where
       → countAnswer (Counted.Variables n) ≡ callImage count I .told
   unfolding countReply countAnswer
   count-done a n q h =
-      (λ i. answer s (countReply (sym h i)) []) ∙ ((λ i. answer s (q i) (sym (unlent-buffer a-count given) i)) ∙ answer-at count I s e k)
+      (λ i. answer s (countReply (sym h i)) []) ∙ ((λ i. answer s (q i) (sym (buffer-none a-count given) i)) ∙ answer-at count I s e k)
 
   pub count-moved : (a : Counted) (x y : Error) → countReply a ≡ callArea count given .reply → a ≡ Counted.Refused x → y ≡ moved s x
       → countAnswer (Counted.Refused y) ≡ callImage count I .told
   unfolding countReply countAnswer
   count-moved a x y q h m =
       (λ i. refusal (m i) [])
-      ∙ ((λ i. answer s (countReply (sym h i)) []) ∙ ((λ i. answer s (q i) (sym (unlent-buffer a-count given) i)) ∙ answer-at count I s e k))
+      ∙ ((λ i. answer s (countReply (sym h i)) []) ∙ ((λ i. answer s (q i) (sym (buffer-none a-count given) i)) ∙ answer-at count I s e k))
 
   pub count-offset : (a : Counted) (x : Error) → countReply a ≡ callArea count given .reply → a ≡ Counted.Refused x → s + offsetOf x ≤ length I
   unfolding countReply
@@ -263,7 +264,7 @@ module _ (I : List ℕ) (s e : ℕ) (k : AreaAt I s e) where
     read-offset x h = let z = ap (λ (r : ReadAnswer). replyOffset (readReply r)) h in omega (arith, offset-at (read name buffer) (readReply a) q)
 
 -- nothing was found
-module _ (I : List ℕ) (e : Error) (f : findOf I 0x70 commonName ≡ Refused e) where
+module _ (I : List ℕ) (e : Error) (f : findOf I 0x70 common ≡ Refused e) where
   pub count-not : countAnswer (Counted.Refused e) ≡ callImage count I .told
   unfolding countAnswer wellNamed
   count-not = answer-not count I e f

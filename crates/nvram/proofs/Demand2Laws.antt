@@ -49,11 +49,12 @@ use Rattle.variables.specs.Calls.{set, read, wellNamed, done, Outcome, refuse, 
 use Rattle.variables.proofs.ParseLaws.{Good, area-read, length-area, parse-area}
 use Rattle.variables.proofs.EditLaws.{lookup-next, good-set, lookup-set}
 use Rattle.variables.proofs.EntryLaws.{parse-exactly, found-exactly}
-use Rattle.nvram.specs.Calls.{Answer, moved, answer, commonName, Result, callImage}
+use Rattle.nvram.specs.Calls.{Answer, moved, answer, Result, callImage}
 use Rattle.nvram.specs.Table.{common}
 use Rattle.nvram.specs.Demands.{Demand2}
 use Rattle.nvram.proofs.AreaInImage.{found-area, area-bytes, find-kept, area-new}
-use Rattle.nvram.proofs.CallLaws.{splitFound, splitParse, area-ill-named, area-parsed, area-faulty, image-ill-named, image-refused, call-image}
+use Rattle.nvram.proofs.CallLaws.{splitFound, splitParse, image-ill-named, image-refused, call-image}
+use Rattle.variables.proofs.CallPlaces.{call-misnamed, call-faulty, call-parsed}
 
 -- ---- a read
 
@@ -75,9 +76,9 @@ read-found : (name value buffer area : List ℕ) (ps : List Pair) → parse area
 unfolding callPairs wellNamed
 read-found name value buffer area ps r f l =
     let g : goodName name ≡ true = found-named name value (area-read area ps r .good) f in
-    area-parsed (read name buffer) area g ps r ∙ rw (f, le-ltb (length buffer) (length value) l)
+    call-parsed (read name buffer) area g ps r ∙ rw (f, le-ltb (length buffer) (length value) l)
 
-read-told : (I : List ℕ) (p : Partition) (ps : List Pair) (name value buffer : List ℕ) → findOf I 0x70 commonName ≡ At p → parse (areaOf I (At p)) ≡ parsed ps
+read-told : (I : List ℕ) (p : Partition) (ps : List Pair) (name value buffer : List ℕ) → findOf I 0x70 common ≡ At p → parse (areaOf I (At p)) ≡ parsed ps
     → lookup name ps ≡ found value → length value ≤ length buffer → callImage (read name buffer) I .told ≡ valueTold value buffer
 read-told I p ps name value buffer e r f l =
     ap (λ (x : Result). x .told) (call-image (read name buffer) I p e)
@@ -129,12 +130,12 @@ module _ (n : ℕ) (name value area : List ℕ) (h : codeFrom n (callArea (set n
   module _ (ps : List Pair) (g : goodName name ≡ true) (r : parse area ≡ parsed ps) where
     set-full : ltb (length area) (length (pairsBytes (setPair name value ps)) + 1) ≡ true → callArea (set name value) area ≡ refuse NoRoom (set name value) area
     unfolding callPairs setIn wellNamed
-    set-full t = area-parsed (set name value) area g ps r ∙ rw t
+    set-full t = call-parsed (set name value) area g ps r ∙ rw t
 
     set-fits : ltb (length area) (length (pairsBytes (setPair name value ps)) + 1) ≡ false
         → callArea (set name value) area ≡ edited (written (length area) (setPair name value ps))
     unfolding callPairs setIn wellNamed
-    set-fits t = area-parsed (set name value) area g ps r ∙ rw t
+    set-fits t = call-parsed (set name value) area g ps r ∙ rw t
 
   set-done : SetDone name value area (callArea (set name value) area)
   unfolding wellNamed
@@ -150,12 +151,12 @@ module _ (n : ℕ) (name value area : List ℕ) (h : codeFrom n (callArea (set n
         room = ltb-false (length area) (length (pairsBytes (setPair name value ps)) + 1) t;
         left = ap (λ (o : Outcome). o .area) (set-fits ps g r t);
       }))
-      (λ e r. never e (refuse e (set name value) area) (area-faulty (set name value) area g e r) refl))
-      (λ g. never BadName (refuse BadName (set name value) area) (area-ill-named (set name value) area g) refl)
+      (λ e r. never e (refuse e (set name value) area) (call-faulty (set name value) area g e r) refl))
+      (λ g. never BadName (refuse BadName (set name value) area) (call-misnamed (set name value) area g) refl)
 
 -- ---- a set and then a read, on an image
 
-module _ (I : List ℕ) (p : Partition) (name value buffer : List ℕ) (e : findOf I 0x70 commonName ≡ At p) where
+module _ (I : List ℕ) (p : Partition) (name value buffer : List ℕ) (e : findOf I 0x70 common ≡ At p) where
   set-then-read : SetDone name value (areaOf I (At p)) (callArea (set name value) (areaOf I (At p))) → length value ≤ length buffer
       → callImage (read name buffer) (callImage (set name value) I .image) .told ≡ valueTold value buffer
   unfolding stands
@@ -167,15 +168,15 @@ module _ (I : List ℕ) (p : Partition) (name value buffer : List ℕ) (e : find
       let q : callImage (set name value) I .image ≡ pasted I (p .offset + 16) area =
       ap (λ (x : Result). x .image) (call-image (set name value) I p e) ∙ ap (pasted I (p .offset + 16)) (d .left) in
       ap (λ (J : List ℕ). callImage (read name buffer) J .told) q
-      ∙ read-told (pasted I (p .offset + 16) area) p qs name value buffer (find-kept I 0x70 commonName p e area k)
-      (ap parse (area-new I 0x70 commonName p e area k) ∙ parse-area (length (areaOf I (At p))) g) (lookup-set name value (d .pairs)) l
+      ∙ read-told (pasted I (p .offset + 16) area) p qs name value buffer (find-kept I 0x70 common p e area k)
+      (ap parse (area-new I 0x70 common p e area k) ∙ parse-area (length (areaOf I (At p))) g) (lookup-set name value (d .pairs)) l
 
 -- what is set reads back the same, on every image
 pub set-read : (I name value buffer : List ℕ) → callImage (set name value) I .told .code ≡ 0 → length value ≤ length buffer
     → Reads (callImage (read name buffer) (callImage (set name value) I .image) .told) value
 set-read I name value buffer h l =
     split (wellNamed (set name value))
-    (λ w. splitFound (findOf I 0x70 commonName)
+    (λ w. splitFound (findOf I 0x70 common)
     (λ p e. told-reads (callImage (read name buffer) (callImage (set name value) I .image) .told) value buffer
     (set-then-read I p name value buffer e
     (set-done (p .offset + 16) name value (areaOf I (At p))
@@ -187,8 +188,8 @@ set-read I name value buffer h l =
 pub entry-read : (I : List ℕ) → AllBytes I → (p : Partition) (es : List Entry) (name value buffer : List ℕ) → FirstNamed I 0x70 common p
     → WellFormed es (areaAt I (p .offset)) → Holds name es value → length value ≤ length buffer → Reads (callImage (read name buffer) I .told) value
 entry-read I b p es name value buffer f w h l =
-    let e : findOf I 0x70 commonName ≡ At p = find-first I 0x70 common b p .1 f in
-    let A = found-area I 0x70 commonName p e in
+    let e : findOf I 0x70 common ≡ At p = find-first I 0x70 common b p .1 f in
+    let A = found-area I 0x70 common p e in
     let k = parse-exactly (areaAt I (p .offset)) es (rw A at (area-bytes I (At p) b)) .1 w in
     told-reads (callImage (read name buffer) I .told) value buffer
     (read-told I p (k .0) name value buffer e (ap parse A ∙ k .1)

@@ -23,9 +23,11 @@ use Rattle.variables.specs.Edits.{areaOf as written, canonicalPair, normalizePa
 use Rattle.variables.specs.Calls.{normalize, wellNamed, Outcome, callPairs, callArea}
 use Rattle.variables.proofs.ParseLaws.{Good, length-pairs, area-read, read-room, length-area, parse-area}
 use Rattle.variables.proofs.EditLaws.{good-normalize, normalize-twice as pairs-twice}
-use Rattle.nvram.specs.Calls.{commonName, Result, callImage}
+use Rattle.nvram.specs.Calls.{Result, callImage}
 use Rattle.nvram.proofs.AreaInImage.{area-back, find-kept, area-new}
-use Rattle.nvram.proofs.CallLaws.{splitFound, splitParse, area-parsed, area-faulty, call-image, image-unfound}
+use Rattle.nvram.proofs.CallLaws.{splitFound, splitParse, call-image, image-unfound}
+use Rattle.variables.proofs.CallPlaces.{call-faulty, call-parsed}
+use Rattle.nvram.specs.Table.{common}
 
 -- ---- the canonical form never takes more room
 
@@ -101,11 +103,11 @@ pairs-short (Good.more {p = p} {ps = ps} n v s g) =
 
 normalize-parsed : (area : List ℕ) (ps : List Pair) → parse area ≡ parsed ps → callArea normalize area .area ≡ written (length area) (normalizePairs ps)
 unfolding wellNamed callPairs
-normalize-parsed area ps r = ap (λ (o : Outcome). o .area) (area-parsed normalize area refl ps r)
+normalize-parsed area ps r = ap (λ (o : Outcome). o .area) (call-parsed normalize area refl ps r)
 
 normalize-faulty : (area : List ℕ) (e : Error) → parse area ≡ faulty e → callArea normalize area .area ≡ area
 unfolding wellNamed
-normalize-faulty area e r = ap (λ (o : Outcome). o .area) (area-faulty normalize area refl e r)
+normalize-faulty area e r = ap (λ (o : Outcome). o .area) (call-faulty normalize area refl e r)
 
 -- the second time, nothing changes, and the length stays
 record Twice (area : List ℕ) : Type 0 where
@@ -136,21 +138,21 @@ twice area = splitParse (parse area) (twice-parsed area) (twice-faulty area)
 
 -- ---- an image
 
-twice-at : (I : List ℕ) (p : Partition) → findOf I 0x70 commonName ≡ At p
+twice-at : (I : List ℕ) (p : Partition) → findOf I 0x70 common ≡ At p
     → callImage normalize (callImage normalize I .image) .image ≡ callImage normalize I .image
 twice-at I p e =
     let t = twice (areaOf I (At p)) in
     let area : List ℕ = callArea normalize (areaOf I (At p)) .area in
     let J : List ℕ = pasted I (p .offset + 16) area in
     let q : callImage normalize I .image ≡ J = ap (λ (r : Result). r .image) (call-image normalize I p e) in
-    let f : findOf J 0x70 commonName ≡ At p = find-kept I 0x70 commonName p e area (t .long) in
-    let w : areaOf J (At p) ≡ area = area-new I 0x70 commonName p e area (t .long) in
+    let f : findOf J 0x70 common ≡ At p = find-kept I 0x70 common p e area (t .long) in
+    let w : areaOf J (At p) ≡ area = area-new I 0x70 common p e area (t .long) in
     ap (λ (x : List ℕ). callImage normalize x .image) q
     ∙ ap (λ (r : Result). r .image) (call-image normalize J p f)
     ∙ ap (λ (x : List ℕ). pasted J (p .offset + 16) (callArea normalize x .area)) w
-    ∙ ap (pasted J (p .offset + 16)) (t .same ∙ sym w) ∙ area-back J 0x70 commonName p f ∙ sym q
+    ∙ ap (pasted J (p .offset + 16)) (t .same ∙ sym w) ∙ area-back J 0x70 common p f ∙ sym q
 
 -- A SECOND NORMALIZING CHANGES NOTHING
 pub normalize-twice : (I : List ℕ) → callImage normalize (callImage normalize I .image) .image ≡ callImage normalize I .image
 normalize-twice I =
-    splitFound (findOf I 0x70 commonName) (twice-at I) (λ x e. ap (λ (J : List ℕ). callImage normalize J .image) (image-unfound normalize I x e))
+    splitFound (findOf I 0x70 common) (twice-at I) (λ x e. ap (λ (J : List ℕ). callImage normalize J .image) (image-unfound normalize I x e))

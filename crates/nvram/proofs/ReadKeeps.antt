@@ -11,9 +11,10 @@ use Rattle.partitions.specs.Find.{findOf, areaOf}
 use Rattle.variables.specs.Area.{Parse, parsed, faulty, parse}
 use Rattle.variables.specs.Edits.{Lookup, found, missing, lookup}
 use Rattle.variables.specs.Calls.{Call, read, count, wellNamed, readBy, callPairs, callBy, callArea}
-use Rattle.nvram.specs.Calls.{Result, callImage, commonName}
+use Rattle.nvram.specs.Calls.{Result, callImage}
 use Rattle.nvram.proofs.AreaInImage.{area-back}
 use Rattle.nvram.proofs.CallLaws.{splitFound, call-image, image-unfound}
+use Rattle.nvram.specs.Table.{common}
 
 -- ---- they leave the area
 
@@ -45,8 +46,8 @@ count-area area = count-parsed (parse area) area
 -- a call that leaves every area leaves every image
 pub image-kept : (call : Call) (I : List ℕ) → ((area : List ℕ) → callArea call area .area ≡ area) → callImage call I .image ≡ I
 image-kept call I k =
-    splitFound (findOf I 0x70 commonName)
-    (λ p e. ap (λ (r : Result). r .image) (call-image call I p e) ∙ ap (pasted I (p .offset + 16)) (k (areaOf I (At p))) ∙ area-back I 0x70 commonName p e)
+    splitFound (findOf I 0x70 common)
+    (λ p e. ap (λ (r : Result). r .image) (call-image call I p e) ∙ ap (pasted I (p .offset + 16)) (k (areaOf I (At p))) ∙ area-back I 0x70 common p e)
     (image-unfound call I)
 
 -- A READ CHANGES NO BYTE

@@ -30,13 +30,14 @@ use Rattle.variables.specs.Calls.{Call, set, remove, normalize, read, count, we
 use Rattle.variables.proofs.ParseLaws.{Good, area-read, read-room, length-area, parse-area}
 use Rattle.variables.proofs.EditLaws.{set-first, set-next, remove-first, remove-next, good-set, good-remove, good-normalize, remove-room, bytes-read, bytes-set, bytes-remove, bytes-normalize, bytes-area, normalize-room, normalize-twice}
 use Rattle.variables.proofs.EntryLaws.{entriesOf, parse-exactly}
-use Rattle.nvram.specs.Calls.{Answer, moved, answer, commonName, Result, callImage, Results, runImage}
+use Rattle.nvram.specs.Calls.{Answer, moved, answer, Result, callImage, Results, runImage}
 use Rattle.nvram.specs.Model.{Model, total, setEntry, dropEntry, newSizes, Value, valueOf, Stepped, says, keeps, becomes, removeStep, readStep, step, Run, run, canonicalArea}
 use Rattle.nvram.specs.Table.{common}
 use Rattle.nvram.specs.Demands.{CallBytes, CallsBytes, Normalizes, Demand3}
 use Rattle.nvram.proofs.AreaInImage.{found-area, area-back, area-bytes, find-kept, area-new, area-at-new, edit-again, image-long, before-kept, after-kept, bytes-kept}
-use Rattle.nvram.proofs.CallLaws.{area-ill-named, area-parsed, lifted, call-image}
+use Rattle.nvram.proofs.CallLaws.{lifted, call-image}
 use Rattle.nvram.proofs.ModelLaws.{entries-set, entries-remove, entries-normalize, valueFor, value-entries, count-entries, total-entries, canonical-area}
+use Rattle.variables.proofs.CallPlaces.{call-misnamed, call-parsed}
 
 -- the model of an area that reads as these pairs
 abbrev pub modelOf : List ℕ → List Pair → Model
@@ -187,15 +188,15 @@ module _ (n : ℕ) (area : List ℕ) (ps : List Pair) (r : parse area ≡ parsed
       let k : total (setEntry name value (entriesOf ps)) ≡ length (pairsBytes qs) = ap total c ∙ total-entries qs in
       split (goodName name)
       (λ g. split (ltb (length area) (length (pairsBytes qs) + 1))
-      (λ t. agree-as (area-parsed (set name value) area g ps r ∙ rw t)
+      (λ t. agree-as (call-parsed (set name value) area g ps r ∙ rw t)
       (step-set-full (modelOf area ps) name value g (ap (λ (x : ℕ). ltb (length area) (x + 1)) k ∙ t))
       (stay (set name value) (refused NoRoom) [] (says 13 0 []) (λ q. clash (cc)) refl))
-      (λ t. agree-as (area-parsed (set name value) area g ps r ∙ rw t)
+      (λ t. agree-as (call-parsed (set name value) area g ps r ∙ rw t)
       (step-set-done (modelOf area ps) name value g (ap (λ (x : ℕ). ltb (length area) (x + 1)) k ∙ t))
       (edit (set name value) (setEntry name value (entriesOf ps)) qs (good-set value (good-name-exactly name .0 g) refl good)
       (ltb-false (length area) (length (pairsBytes qs) + 1) t) (bytes-set value (good-name-exactly name .0 g) h good stored) c
       (λ w. normalize-set name value ps ∙ ap (setPair name value) w) (λ q. clash (cc)))))
-      (λ g. agree-as (area-ill-named (set name value) area g) (step-set-ill (modelOf area ps) name value g)
+      (λ g. agree-as (call-misnamed (set name value) area g) (step-set-ill (modelOf area ps) name value g)
       (stay (set name value) (refused BadName) [] (says 11 0 []) (λ q. clash (cc)) refl))
 
   agree-remove : (name : List ℕ) → Agree n (remove name) area ps (callArea (remove name) area) (step (remove name) (modelOf area ps))
@@ -204,21 +205,21 @@ module _ (n : ℕ) (area : List ℕ) (ps : List Pair) (r : parse area ≡ parsed
       let v = value-entries name ps in
       split (goodName name)
       (λ g. splitLookup (lookup name ps)
-      (λ value f. agree-as (area-parsed (remove name) area g ps r ∙ ap (λ (x : Lookup). removeBy x name ps area) f)
+      (λ value f. agree-as (call-parsed (remove name) area g ps r ∙ ap (λ (x : Lookup). removeBy x name ps area) f)
       (step-remove (modelOf area ps) name g ∙ ap (λ (x : Value). removeStep x name (modelOf area ps)) (v ∙ ap valueFor f))
       (edit (remove name) (dropEntry name (entriesOf ps)) (removePair name ps) (good-remove name good)
       (omega (arith, room, remove-room name ps)) (bytes-remove name good stored) (sym (entries-remove name ps))
       (λ w. normalize-remove name ps ∙ ap (removePair name) w) (λ q. clash (cc))))
-      (λ f. agree-as (area-parsed (remove name) area g ps r ∙ ap (λ (x : Lookup). removeBy x name ps area) f)
+      (λ f. agree-as (call-parsed (remove name) area g ps r ∙ ap (λ (x : Lookup). removeBy x name ps area) f)
       (step-remove (modelOf area ps) name g ∙ ap (λ (x : Value). removeStep x name (modelOf area ps)) (v ∙ ap valueFor f))
       (stay (remove name) (refused NoVariable) [] (says 12 0 []) (λ q. clash (cc)) refl)))
-      (λ g. agree-as (area-ill-named (remove name) area g) (step-remove-ill (modelOf area ps) name g)
+      (λ g. agree-as (call-misnamed (remove name) area g) (step-remove-ill (modelOf area ps) name g)
       (stay (remove name) (refused BadName) [] (says 11 0 []) (λ q. clash (cc)) refl))
 
   agree-normalize : Agree n normalize area ps (callArea normalize area) (step normalize (modelOf area ps))
   unfolding wellNamed callPairs
   agree-normalize =
-      agree-as (area-parsed normalize area refl ps r) (step-normalize (modelOf area ps))
+      agree-as (call-parsed normalize area refl ps r) (step-normalize (modelOf area ps))
       (edit normalize (newSizes (entriesOf ps)) (normalizePairs ps) (good-normalize good)
       (omega (arith, room, normalize-room good stored)) (bytes-normalize good stored)
       (sym (entries-normalize ps)) (λ w. normalize-twice ps) (λ q. normalize-twice ps))
@@ -230,23 +231,23 @@ module _ (n : ℕ) (area : List ℕ) (ps : List Pair) (r : parse area ≡ parsed
       split (goodName name)
       (λ g. splitLookup (lookup name ps)
       (λ value f. split (ltb (length buffer) (length value))
-      (λ t. agree-as (area-parsed (read name buffer) area g ps r ∙ ap (λ (x : Lookup). readBy x name buffer area) f ∙ rw t)
+      (λ t. agree-as (call-parsed (read name buffer) area g ps r ∙ ap (λ (x : Lookup). readBy x name buffer area) f ∙ rw t)
       (step-read (modelOf area ps) name buffer g ∙ ap (λ (x : Value). readStep x buffer (modelOf area ps)) (v ∙ ap valueFor f) ∙ rw t)
       (stay (read name buffer) (refused ShortBuffer) buffer (says 14 0 buffer) (λ q. clash (cc)) refl))
-      (λ t. agree-as (area-parsed (read name buffer) area g ps r ∙ ap (λ (x : Lookup). readBy x name buffer area) f ∙ rw t)
+      (λ t. agree-as (call-parsed (read name buffer) area g ps r ∙ ap (λ (x : Lookup). readBy x name buffer area) f ∙ rw t)
       (step-read (modelOf area ps) name buffer g ∙ ap (λ (x : Value). readStep x buffer (modelOf area ps)) (v ∙ ap valueFor f) ∙ rw t)
       (stay (read name buffer) (done (length value)) (pasted buffer 0 value) (says 0 (length value) (value ++ drop (length value) buffer))
       (λ q. clash (cc)) (ap (says 0 (length value)) (pasted-first buffer value)))))
-      (λ f. agree-as (area-parsed (read name buffer) area g ps r ∙ ap (λ (x : Lookup). readBy x name buffer area) f)
+      (λ f. agree-as (call-parsed (read name buffer) area g ps r ∙ ap (λ (x : Lookup). readBy x name buffer area) f)
       (step-read (modelOf area ps) name buffer g ∙ ap (λ (x : Value). readStep x buffer (modelOf area ps)) (v ∙ ap valueFor f))
       (stay (read name buffer) (refused NoVariable) buffer (says 12 0 buffer) (λ q. clash (cc)) refl)))
-      (λ g. agree-as (area-ill-named (read name buffer) area g) (step-read-ill (modelOf area ps) name buffer g)
+      (λ g. agree-as (call-misnamed (read name buffer) area g) (step-read-ill (modelOf area ps) name buffer g)
       (stay (read name buffer) (refused BadName) buffer (says 11 0 buffer) (λ q. clash (cc)) refl))
 
   agree-count : Agree n count area ps (callArea count area) (step count (modelOf area ps))
   unfolding wellNamed callPairs
   agree-count =
-      agree-as (area-parsed count area refl ps r) (step-count (modelOf area ps))
+      agree-as (call-parsed count area refl ps r) (step-count (modelOf area ps))
       (stay count (done (length ps)) [] (says 0 (length (entriesOf ps)) []) (λ q. clash (cc)) (ap (λ (k : ℕ). says 0 k []) (sym (count-entries ps))))
 
   -- ONE CALL
@@ -286,7 +287,7 @@ run-step : (call : Call) (calls : List Call) (m : Model) → run (call ∷ calls
 unfolding run after-step
 run-step call calls m = refl
 
-together-none : (I : List ℕ) (p : Partition) (ps : List Pair) → findOf I 0x70 commonName ≡ At p → AllBytes I → parse (areaOf I (At p)) ≡ parsed ps
+together-none : (I : List ℕ) (p : Partition) (ps : List Pair) → findOf I 0x70 common ≡ At p → AllBytes I → parse (areaOf I (At p)) ≡ parsed ps
     → Together [] I p ps (runImage [] I) (run [] (modelOf (areaOf I (At p)) ps))
 unfolding runImage run
 together-none I p ps e b r =
@@ -294,7 +295,7 @@ together-none I p ps e b r =
       area = areaOf I (At p);
       pairs = ps;
       answers = refl;
-      image = sym (area-back I 0x70 commonName p e);
+      image = sym (area-back I 0x70 common p e);
       long = refl;
       reads = r;
       model = refl;
@@ -303,19 +304,19 @@ together-none I p ps e b r =
       normal = λ q. absurd q;
     }
 
-together-more : (call : Call) (calls : List Call) (I : List ℕ) (p : Partition) (ps : List Pair) → findOf I 0x70 commonName ≡ At p
+together-more : (call : Call) (calls : List Call) (I : List ℕ) (p : Partition) (ps : List Pair) → findOf I 0x70 common ≡ At p
     → (o : Outcome) (s : Stepped) (a : Agree (p .offset + 16) call (areaOf I (At p)) ps o s)
     → Together calls (pasted I (p .offset + 16) (o .area)) p (a .pairs) (runImage calls (pasted I (p .offset + 16) (o .area))) (run calls (modelOf (o .area) (a .pairs)))
     → Together (call ∷ calls) I p ps (after-first calls (lifted I p o)) (after-step calls s)
 unfolding after-first after-step
 together-more call calls I p ps e o s a t =
-    let w = area-new I 0x70 commonName p e (o .area) (a .long) in
+    let w = area-new I 0x70 common p e (o .area) (a .long) in
     rw (a .model)
     (record {
       area = t .area;
       pairs = t .pairs;
       answers = λ i. a .told i ∷ t .answers i;
-      image = t .image ∙ edit-again I 0x70 commonName p e (o .area) (a .long) (t .area) (t .long ∙ ap length w);
+      image = t .image ∙ edit-again I 0x70 common p e (o .area) (a .long) (t .area) (t .long ∙ ap length w);
       long = t .long ∙ ap length w ∙ a .long;
       reads = t .reads;
       model = t .model;
@@ -329,21 +330,21 @@ together-as : {calls : List Call} {I : List ℕ} {p : Partition} {ps : List Pair
 together-as e f t = rw (e, f) t
 
 -- what the calls after the first do, and all of them
-together-on : (call : Call) (calls : List Call) (I : List ℕ) (p : Partition) (ps : List Pair) (e : findOf I 0x70 commonName ≡ At p)
+together-on : (call : Call) (calls : List Call) (I : List ℕ) (p : Partition) (ps : List Pair) (e : findOf I 0x70 common ≡ At p)
     (o : Outcome) (s : Stepped) (a : Agree (p .offset + 16) call (areaOf I (At p)) ps o s)
-    → (findOf (pasted I (p .offset + 16) (o .area)) 0x70 commonName ≡ At p → AllBytes (pasted I (p .offset + 16) (o .area))
+    → (findOf (pasted I (p .offset + 16) (o .area)) 0x70 common ≡ At p → AllBytes (pasted I (p .offset + 16) (o .area))
     → parse (areaOf (pasted I (p .offset + 16) (o .area)) (At p)) ≡ parsed (a .pairs)
     → Together calls (pasted I (p .offset + 16) (o .area)) p (a .pairs) (runImage calls (pasted I (p .offset + 16) (o .area)))
     (run calls (modelOf (areaOf (pasted I (p .offset + 16) (o .area)) (At p)) (a .pairs))))
     → AllBytes I → Together (call ∷ calls) I p ps (after-first calls (lifted I p o)) (after-step calls s)
 together-on call calls I p ps e o s a ih b =
-    let w = area-new I 0x70 commonName p e (o .area) (a .long) in
+    let w = area-new I 0x70 common p e (o .area) (a .long) in
     together-more call calls I p ps e o s a
     (together-as refl (ap (λ (x : List ℕ). run calls (modelOf x (a .pairs))) (sym w))
-    (ih (find-kept I 0x70 commonName p e (o .area) (a .long)) (bytes-kept I 0x70 commonName p e (o .area) (a .long) b (a .bytes)) (ap parse w ∙ a .reads)))
+    (ih (find-kept I 0x70 common p e (o .area) (a .long)) (bytes-kept I 0x70 common p e (o .area) (a .long) b (a .bytes)) (ap parse w ∙ a .reads)))
 
 -- ALL THE CALLS
-pub together : (calls : List Call) (I : List ℕ) (p : Partition) (ps : List Pair) → findOf I 0x70 commonName ≡ At p → AllBytes I
+pub together : (calls : List Call) (I : List ℕ) (p : Partition) (ps : List Pair) → findOf I 0x70 common ≡ At p → AllBytes I
     → CallsBytes calls → parse (areaOf I (At p)) ≡ parsed ps → Together calls I p ps (runImage calls I) (run calls (modelOf (areaOf I (At p)) ps))
 together [] I p ps e b h r = together-none I p ps e b r
 together (call ∷ calls) I p ps e b h r =
@@ -355,11 +356,11 @@ together (call ∷ calls) I p ps e b h r =
 
 -- ---- demand 3
 
-module _ (I : List ℕ) (p : Partition) (ps : List Pair) (calls : List Call) (e : findOf I 0x70 commonName ≡ At p)
+module _ (I : List ℕ) (p : Partition) (ps : List Pair) (calls : List Call) (e : findOf I 0x70 common ≡ At p)
     (r : parse (areaOf I (At p)) ≡ parsed ps) (t : Together calls I p ps (runImage calls I) (run calls (modelOf (areaOf I (At p)) ps)))
   where
     last-area : areaAt (runImage calls I .image) (p .offset) ≡ t .area
-    last-area = ap (λ (J : List ℕ). areaAt J (p .offset)) (t .image) ∙ area-at-new I 0x70 commonName p e (t .area) (t .long)
+    last-area = ap (λ (J : List ℕ). areaAt J (p .offset)) (t .image) ∙ area-at-new I 0x70 common p e (t .area) (t .long)
 
     last-entries : run calls (modelOf (areaOf I (At p)) ps) .model .entries ≡ entriesOf (t .pairs)
     last-entries = ap (λ (m : Model). m .entries) (t .model)
@@ -377,15 +378,15 @@ module _ (I : List ℕ) (p : Partition) (ps : List Pair) (calls : List Call) (e 
     -- of the area as the rules say it
     by-rules : (es : List Entry) → entriesOf ps ≡ es → Demand3 I (p .offset) es calls
     by-rules es q =
-        let A : areaOf I (At p) ≡ areaAt I (p .offset) = found-area I 0x70 commonName p e in
+        let A : areaOf I (At p) ≡ areaAt I (p .offset) = found-area I 0x70 common p e in
         let m : modelOf (areaOf I (At p)) ps ≡ record { room = length (areaAt I (p .offset)); entries = es } =
         λ i. record { room = length (A i); entries = q i } in
         record {
           answers = t .answers ∙ ap (λ (x : Model). run calls x .answers) m;
           entries = subst (λ (x : Model). WellFormed (run calls x .model .entries) (areaAt (runImage calls I .image) (p .offset))) m last-formed;
-          long = ap length (t .image) ∙ image-long I 0x70 commonName p e (t .area) (t .long);
-          before = ap (take (p .offset + 16)) (t .image) ∙ before-kept I 0x70 commonName p e (t .area) (t .long);
-          after = ap (drop (p .offset + blocksAt I (p .offset) * 16)) (t .image) ∙ after-kept I 0x70 commonName p e (t .area) (t .long);
+          long = ap length (t .image) ∙ image-long I 0x70 common p e (t .area) (t .long);
+          before = ap (take (p .offset + 16)) (t .image) ∙ before-kept I 0x70 common p e (t .area) (t .long);
+          after = ap (drop (p .offset + blocksAt I (p .offset) * 16)) (t .image) ∙ after-kept I 0x70 common p e (t .area) (t .long);
           canonical = λ h.
               last-canonical (elim h [ inl c ↦ inl (A ∙ c ∙ (λ i. canonicalArea (length (sym A i)) (sym q i))) | inr z ↦ inr z ])
               ∙ (λ i. canonicalArea (length (A i)) (run calls (m i) .model .entries));
@@ -395,8 +396,8 @@ module _ (I : List ℕ) (p : Partition) (ps : List Pair) (calls : List Call) (e 
 pub demand-3 : (I : List ℕ) (p : Partition) (es : List Entry) (calls : List Call) → AllBytes I → CallsBytes calls → FirstNamed I 0x70 common p
     → WellFormed es (areaAt I (p .offset)) → Demand3 I (p .offset) es calls
 demand-3 I p es calls b h f w =
-    let e : findOf I 0x70 commonName ≡ At p = find-first I 0x70 common b p .1 f in
-    let A = found-area I 0x70 commonName p e in
+    let e : findOf I 0x70 common ≡ At p = find-first I 0x70 common b p .1 f in
+    let A = found-area I 0x70 common p e in
     let k = parse-exactly (areaAt I (p .offset)) es (rw A at (area-bytes I (At p) b)) .1 w in
     let r : parse (areaOf I (At p)) ≡ parsed (k .0) = ap parse A ∙ k .1 in
     by-rules I p (k .0) calls e r (together calls I p (k .0) e b h r) es (k .2)

@@ -34,6 +34,7 @@ use Rattle.variables.specs.declared.Edited.the-variants as Edited
 use Rattle.nvram.specs.declared.Span.{Span}
 use Rattle.nvram.specs.declared.Span.the-variants as Span
 use Rattle.variables.specs.Calls.{Call, lent, wellNamed, Reply, done, refused, Outcome, callArea}
+use Rattle.nvram.specs.Table.{common}
 
 -- what the caller sees of a call on variables: code, offset, a length or count, and the buffer afterwards
 pub record Answer : Type 0 where
@@ -67,10 +68,6 @@ abbrev pub answer : ℕ → Reply → List ℕ → Answer
 answer n (done amount) buffer = record { code = 0; offset = 0; amount = amount; buffer = buffer }
 answer n (refused e) buffer = refusal (moved n e) buffer
 
--- the name `common`
-abbrev pub commonName : List ℕ
-commonName = 0x63 ∷ 0x6F ∷ 0x6D ∷ 0x6D ∷ 0x6F ∷ 0x6E ∷ []
-
 -- what a call answers, and the image afterwards
 pub record Result : Type 0 where
   pub told : Answer
@@ -90,7 +87,7 @@ pickResult false a b = b
 -- a call on an image: 11 first, then its length, its headers and `common`, then the area
 unfoldable pub callImage : Call → List ℕ → Result
 callImage call image =
-    pickResult (wellNamed call) (callFound call image (findOf image 0x70 commonName))
+    pickResult (wellNamed call) (callFound call image (findOf image 0x70 common))
     (record { told = refusal BadName (lent call); image = image })
 
 -- a list of calls: each gets the image as the last one left it

@@ -16,7 +16,8 @@ ghost use Rattle.variables.specs.Calls as Calls;
 ghost use mathlib.Core.List.{[]};
 ghost use Rattle.names.specs.Name.{goodName};
 ghost use Rattle.variables.specs.EditPlaces.{editReply};
-ghost use Rattle.nvram.specs.Calls.{moved, commonName, areaSpan, countAnswer, readAnswer, editAnswer, replyOffset, nameFirst, callImage};
+ghost use Rattle.nvram.specs.Table.{common};
+ghost use Rattle.nvram.specs.Calls.{moved, areaSpan, countAnswer, readAnswer, editAnswer, replyOffset, nameFirst, callImage};
 ghost use Rattle.nvram.specs.Calls.{answer as answerAt};
 
 // The signature of the partition that holds the variables.
@@ -66,7 +67,7 @@ pub fn area<'a>(
 
 // Where the variable area stands: in the first partition `common`.
 fn common_area(image: &[u8]) -> Span
-    ensures { λ r. ⌜ r ≡ areaSpan (findOf (now (image .entry)) 0x70 commonName) ⌝ }
+    ensures { λ r. ⌜ r ≡ areaSpan (findOf (now (image .entry)) 0x70 common) ⌝ }
 {
     match partitions::find(image, SIGNATURE, b"common") {
         Found::At(p) => {

@@ -14,7 +14,7 @@ use Rattle.repeats.specs.declared.Repeat.{Repeat}
 use Rattle.repeats.specs.declared.Repeat.the-variants.{At, None}
 use Rattle.repeats.specs.Pieces.{stands, nameAt, startsFrom, starts, repeatIn, firstRepeat}
 use Rattle.repeats.specs.Places.{Start, Distinct, Early, Best}
-use Rattle.repeats.proofs.NameLaws.{drop-next}
+use Rattle.lists.proofs.ListLaws.{drop-next}
 
 -- the names before `at`
 record Seen (l : List ℕ) (at : ℕ) (seen : List (List ℕ)) : Type 0 where

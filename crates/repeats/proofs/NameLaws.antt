@@ -4,21 +4,16 @@ use mathlib.Core.Path.{_≡_, refl, sym, ap, _∙_}
 use mathlib.Core.Logic.{_⊎_, ⊎-elim, inl, inr}
 use mathlib.Core.Bool.{true, false}
 use mathlib.Core.List.{List, _∷_}
-use native.Mathlib.Numerals.{add-one}
 use native.Mathlib.Omega.{arith}
 use lib.Dec.{ltb}
 use lib.ListN.{length, drop, getD, drop-of-length-le}
-use lib.Seq.{drop-cons}
 use borrow.Author.Tests.{eq-eqb, ne-eqb, ltb-true, ltb-false}
 use Rattle.lists.specs.Bytes.{sameBytes}
 use Rattle.lists.proofs.Tests.{split}
-use Rattle.lists.proofs.ByteLaws.{same-refl}
 use Rattle.repeats.specs.Pieces.{endsName, nameOf, nameAt}
 use Rattle.repeats.specs.Places.{NameByte}
 use Rattle.repeats.specs.Table.{hashFrom, bucket}
-
-pub drop-next : (l : List ℕ) (i : ℕ) → i < length l → drop i l ≡ getD l i 0 ∷ drop (i + 1) l
-drop-next l i h = rw (add-one, drop-cons l i 0)
+use Rattle.lists.proofs.ListLaws.{drop-next}
 
 -- a byte of a name
 pub name-none : (l : List ℕ) (at : ℕ) → length l ≤ at → NameByte l at 0
@@ -60,12 +55,6 @@ module _ {l : List ℕ} {i j x y : ℕ} (a : NameByte l i x) (b : NameByte l j y
       pos : (n : ℕ) → (0 < n) ⊎ (n ≡ 0)
       pos zero = inr refl
       pos (suc n) = inl (omega arith)
-
-pub same-not : (x y : List ℕ) → sameBytes x y ≡ false → x ≡ y → ⊥
-same-not x y e q =
-    let t : sameBytes x x ≡ true = same-refl x in
-    let u : sameBytes x x ≡ false = ap (λ (w : List ℕ). sameBytes x w) q ∙ e in
-    let z : _≡_ {A = ℕ} 0 1 = cc in omega arith
 
 -- the hash
 pub hash-end : {l : List ℕ} {i x : ℕ} (h : ℕ) → NameByte l i x → x ≡ 0 → hashFrom h (nameAt l i) ≡ h

@@ -8,8 +8,9 @@ ghost use Rattle.repeats.specs.Pieces.{nameAt, firstRepeat};
 ghost use Rattle.repeats.specs.Places.{Start, NameByte, Next, Distinct, Best};
 ghost use Rattle.repeats.specs.Table.{bucket, Table, Looked, Block, Gathered, Turn};
 
+// The first piece whose name stood before, if there is one.
 pub enum Repeat {
-    // the later piece begins here
+    // The later piece begins here.
     At(usize),
     None,
 }
@@ -27,12 +28,14 @@ struct Turned {
     best: usize,
 }
 
+// A link of the table as an index.
 fn wide(x: u16) -> usize
     ensures { λ r. ⌜ r ≡ x ⌝ }
 {
     x as usize
 }
 
+// A byte as a number that the hash adds.
 fn byte(x: u8) -> usize
     ensures { λ r. ⌜ (r ≡ x) × (r < 256) ⌝ }
 {
@@ -85,6 +88,7 @@ fn next_start(pairs: &[u8], at: usize) -> usize
     i
 }
 
+// Whether the names at two starts are the same.
 fn same_name(pairs: &[u8], p: usize, q: usize) -> bool
     ensures { λ r. ⌜ r ≡ sameBytes (nameAt (now (pairs .entry)) p) (nameAt (now (pairs .entry)) q) ⌝ }
 {

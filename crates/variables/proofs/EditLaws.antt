@@ -9,7 +9,7 @@ use lib.ListN.{length, replicate}
 use Rattle.lists.specs.Bytes.{Every, AllBytes, sameBytes}
 use Rattle.lists.proofs.Tests.{split, clash}
 use Rattle.lists.proofs.ListLaws.{every-append, every-replicate}
-use Rattle.lists.proofs.ByteLaws.{same-refl, same-true, same-false}
+use Rattle.lists.proofs.ByteLaws.{same-refl, same-true, same-false, same-not}
 use Rattle.names.specs.Rules.{NameByte, NameRule}
 use Rattle.values.specs.Value.{decode}
 use Rattle.values.proofs.DecodeLaws.{spells-exactly, bytes-decode}
@@ -19,9 +19,6 @@ use Rattle.variables.specs.Edits.{areaOf, canonicalPair, setPair, remove
 use Rattle.variables.proofs.ParseLaws.{Good, none, more, length-pairs, Read}
 
 -- ---- names among names
-
-pub same-not : (xs ys : List ℕ) → sameBytes xs ys ≡ false → xs ≢ ys
-same-not xs ys e q = clash (cc (same-refl ys))
 
 pub or-false : (a b : Bool) → a || b ≡ false → (a ≡ false) × (b ≡ false)
 or-false true b e = clash (cc)

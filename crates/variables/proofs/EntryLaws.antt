@@ -8,7 +8,7 @@ use native.Mathlib.Omega.{arith}
 use lib.ListN.{length}
 use Rattle.lists.specs.Bytes.{AllBytes, sameBytes}
 use Rattle.lists.proofs.Tests.{split, clash}
-use Rattle.lists.proofs.ByteLaws.{same-refl, same-true}
+use Rattle.lists.proofs.ByteLaws.{same-refl, same-true, same-not}
 use Rattle.names.specs.Rules.{NameRule}
 use Rattle.values.specs.Value.{spelled, decode, encode}
 use Rattle.values.specs.Rules.{Spells}
@@ -20,7 +20,7 @@ use Rattle.variables.specs.Edits.{canonicalPair, setPair, Lookup, found,
 use Rattle.variables.specs.Rules.{Entry, In, sizes, Pairs, Once, WellFormed, Holds, this, other, Shortest, SetSize, added, replaced, kept}
 use Rattle.variables.proofs.ScanLaws.{a-pair, standing-stand, stand-end}
 use Rattle.variables.proofs.ParseLaws.{Good, length-pair, length-pairs, pair-front, area-reads, area-read}
-use Rattle.variables.proofs.EditLaws.{same-not, names, stands-not, stands-first, stands-other, set-first, set-next, lookup-first, lookup-next, bytes-pair, good-unseen}
+use Rattle.variables.proofs.EditLaws.{names, stands-not, stands-first, stands-other, set-first, set-next, lookup-first, lookup-next, bytes-pair, good-unseen}
 
 abbrev pub entryOf : Pair → Entry
 entryOf p = record { name = p .name; value = decode (p .stored); size = length (pairBytes p) }

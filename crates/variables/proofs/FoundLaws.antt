@@ -18,7 +18,9 @@ use Rattle.variables.specs.Area.{Pair, pairOf, pairBytes, pairsBytes, Pa
 use Rattle.variables.specs.Edits.{canonicalPair, setPair, removePair, found, missing, lookup}
 use Rattle.variables.specs.Places.{pickPlace, findFrom, findAt}
 use Rattle.variables.proofs.PairPlaces.{pair-here}
-use Rattle.variables.proofs.PairRuns.{PairRun, none, more, pair-bytes, pair-length, run-bytes}
+use Rattle.variables.proofs.PairRuns.{PairRun, none, more, pair-bytes, run-bytes}
+use Rattle.variables.proofs.LeavesLaws.{pairs-append}
+use Rattle.variables.proofs.ParseLaws.{length-pair}
 
 -- l is these pairs, and then the ending 0x00
 pub record Ended (ps : List Pair) (l : List ℕ) : Type 0 where
@@ -135,7 +137,7 @@ placed-from name at (p ∷ ps) s q e h = split (sameBytes name (p .name))
       after = r .after;
       pairs = ap (λ (qs : List Pair). p ∷ qs) (r .pairs);
       fresh = rw (t, lookup) (r .fresh);
-      start-is = omega (arith, r .start-is, length-append (pairBytes p) (pairsBytes (r .before)), pair-length (p .name) (p .stored));
+      start-is = omega (arith, r .start-is, length-append (pairBytes p) (pairsBytes (r .before)), length-pair p);
       equals-is = r .equals-is;
       end-is = r .end-is;
     })
@@ -201,12 +203,6 @@ module _ (name stored : List ℕ) (after : List Pair) where
       (λ t. rw (t, setPair) (ap (λ (qs : List Pair). p ∷ qs) (set-split value ps (rw (t, lookup) at h))))
 
 -- ---- the bytes of the pair that is found
-
-pub pairs-append : (ps qs : List Pair) → pairsBytes (ps ++ qs) ≡ pairsBytes ps ++ pairsBytes qs
-unfolding pairsBytes
-pairs-append [] qs = refl
-pairs-append (p ∷ ps) qs =
-    ap (λ (l : List ℕ). pairBytes p ++ l) (pairs-append ps qs) ∙ sym (append-assoc (pairBytes p) (pairsBytes ps) (pairsBytes qs))
 
 module _ {name : List ℕ} {ps : List Pair} {start equals end : ℕ} (f : FoundAt name ps start equals end) {area : List ℕ} (r : Ended ps area) where
   pub found-bytes : area ≡ pairsBytes (f .before) ++ (name ++ 0x3D ∷ (f .stored ++ 0x00 ∷ (pairsBytes (f .after) ++ r .rest)))

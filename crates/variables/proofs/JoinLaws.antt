@@ -19,7 +19,8 @@ use Rattle.variables.specs.Scan.{Stand, pair, finish, cut, wrongName, wr
 use Rattle.variables.specs.Area.{Pair, pairOf, pairBytes, pairsBytes, Parse, parsed, faulty, firstPair, onStand, parseFrom, parse}
 use Rattle.variables.specs.Places.{placeOf, scannedOf, orRepeat}
 use Rattle.variables.proofs.PairPlaces.{Goes, NotZero, drop-past, pair-here}
-use Rattle.variables.proofs.PairRuns.{PairRun, none, more, pair-bytes, pair-length, CleanPairs, run-clean, Walked, walked-length, walked-take}
+use Rattle.variables.proofs.PairRuns.{PairRun, none, more, pair-bytes, CleanPairs, run-clean, Walked, walked-length, walked-take}
+use Rattle.variables.proofs.ParseLaws.{length-pair}
 
 -- the first pair whose name stood before
 unfoldable pub repeatPairs : ℕ → List (List ℕ) → List Pair → Repeat
@@ -155,7 +156,7 @@ parse-run (more {name} {stored} {l} {next} {ps = ps} s r) t (suc n) seen at last
     let k : length l ≡ length name + length stored + 2 + length next = pair-shorter l name stored next s in
     let a : ℕ = at + length name + length stored + 2 in
     let f : at + length name + length stored + 2 + length (pairsBytes ps) ≡ last =
-    omega (arith, length-append (pairBytes (pairOf name stored)) (pairsBytes ps), pair-length name stored) in
+    omega (arith, length-append (pairBytes (pairOf name stored)) (pairsBytes ps), length-pair (pairOf name stored)) in
     split (stands name seen)
     (λ u. parse-hit n seen at past l name stored next s u ∙ sym (rw (u, repeatPairs)))
     (λ u.

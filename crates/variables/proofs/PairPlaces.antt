@@ -19,16 +19,12 @@ use Rattle.variables.specs.declared.PairAt.{PairAt}
 use Rattle.variables.specs.declared.PairAt.the-variants as PairAt
 use Rattle.variables.specs.Scan.{Scan, ends, bad, short, and, scanName, scanValue, Stand, pair, finish, cut, wrongName, wrongEscape, onValue, onName, standAt}
 use Rattle.variables.specs.Places.{endOf, placeOf}
+use Rattle.variables.proofs.ScanLaws.{and-ends}
 
 -- a scan takes bytes of a kind off a list, up to the byte that ends them
 pub record Taken (stop : ℕ) (P : ℕ → Type 0) (l taken rest : List ℕ) : Type 0 where
   pub is : l ≡ taken ++ stop ∷ rest
   pub clean : Every P taken
-
-and-ends : (b : ℕ) (s : Scan) (w rest : List ℕ) → and b s ≡ ends w rest → (v : List ℕ) × (w ≡ b ∷ v) × (s ≡ ends v rest)
-and-ends b (ends v r) w rest e = (v, cc, cc)
-and-ends b (bad k) w rest e = clash cc
-and-ends b short w rest e = clash cc
 
 taken-none : (stop : ℕ) (P : ℕ → Type 0) (b : ℕ) (bs w rest : List ℕ) → b ≡ stop → ends [] bs ≡ ends w rest → Taken stop P (b ∷ bs) w rest
 taken-none stop P b bs w rest h e =

@@ -19,10 +19,6 @@ pub pair-bytes : (name stored rest : List ℕ) → pairBytes (pairOf name stored
 unfolding pairBytes
 pair-bytes name stored rest = simp append-assoc
 
-pub pair-length : (name stored : List ℕ) → length (pairBytes (pairOf name stored)) ≡ length name + length stored + 2
-unfolding pairBytes
-pair-length name stored = simp length-append (omega arith)
-
 pub run-bytes : {ps : List Pair} {l rest : List ℕ} → PairRun ps l rest → l ≡ pairsBytes ps ++ rest
 unfolding pairsBytes
 run-bytes none = refl

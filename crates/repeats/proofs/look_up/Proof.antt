@@ -3,10 +3,9 @@ use Prim.Native.Nat.{_-_}
 use mathlib.Core.Path.{sym, _∙_, subst}
 use native.Mathlib.Omega.{arith}
 use borrow.Author.Needs.{needs}
-use Rattle.lists.proofs.ByteLaws.{same-true}
+use Rattle.lists.proofs.ByteLaws.{same-true, same-not}
 use Rattle.repeats.specs.Pieces.{starts}
 use Rattle.repeats.specs.Table.{Table}
-use Rattle.repeats.proofs.NameLaws.{same-not}
 use Rattle.repeats.proofs.TableLaws.{Ahead, ahead-all, ahead-none, ahead-hit, ahead-next}
 use Rattle.repeats.proofs.look_up.Statement.{statement}
 use Rattle.repeats.proofs.look_up.Tie as tie
