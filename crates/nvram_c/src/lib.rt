@@ -1,0 +1,216 @@
+// The C boundary: each function returns the code, 0 where the call is done, and stores the offset and its other outputs, 0 with every code from 1 up.
+use variables::Counted;
+use variables::Edited;
+use variables::ReadAnswer;
+ghost use mathlib.Core.Path.{_≡_};
+ghost use mathlib.Core.List.{List};
+ghost use Prim.Native.Nat.{ℕ};
+ghost use lib.ListN as List;
+ghost use Rattle.variables.specs.Calls.{set, remove, normalize, read, count};
+ghost use Rattle.nvram.specs.Table.{variable, check, partition, find};
+ghost use Rattle.nvram.specs.Calls.{countAnswer, readAnswer, editAnswer};
+ghost use Rattle.nvram.specs.Demands.{seen};
+ghost use Rattle.listing.specs.Text.{listingText};
+ghost use Rattle.listing.specs.Listed.{listedOf, listedIn, listAnswer};
+ghost use Rattle.nvram_c.specs.Told.{toldOf};
+
+// The numbers of an answer: its code, its offset, and a length or count.
+struct Told {
+    code: u32,
+    offset: usize,
+    amount: usize,
+}
+
+// What a caller is told of a count.
+fn told_count(answer: Counted) -> Told
+    ensures { λ r. ⌜ r ≡ toldOf (countAnswer answer) ⌝ }
+{
+    match answer {
+        Counted::Variables(n) => Told {
+            code: 0,
+            offset: 0,
+            amount: n,
+        },
+        Counted::Refused(e) => Told {
+            code: e.code(),
+            offset: e.offset(),
+            amount: 0,
+        },
+    }
+}
+
+// What a caller is told of a read; the buffer is lent and not told.
+fn told_read(answer: ReadAnswer) -> Told
+    ensures { λ r. ⌜ ((buffer : List ℕ) → r ≡ toldOf (readAnswer answer buffer)) ⌝ }
+{
+    match answer {
+        ReadAnswer::Length(n) => Told {
+            code: 0,
+            offset: 0,
+            amount: n,
+        },
+        ReadAnswer::Refused(e) => Told {
+            code: e.code(),
+            offset: e.offset(),
+            amount: 0,
+        },
+    }
+}
+
+// What a caller is told of an edit.
+fn told_edit(answer: Edited) -> Told
+    ensures { λ r. ⌜ r ≡ toldOf (editAnswer answer) ⌝ }
+{
+    match answer {
+        Edited::Done => Told {
+            code: 0,
+            offset: 0,
+            amount: 0,
+        },
+        Edited::Refused(e) => Told {
+            code: e.code(),
+            offset: e.offset(),
+            amount: 0,
+        },
+    }
+}
+
+// Checks an image: the number of partitions that cover it.
+#[no_mangle]
+pub extern "C" fn nvram_check(image: &[u8], offset: &mut usize, partitions: &mut usize) -> u32
+    ensures { λ r. ⌜ r ≡ seen check (now (image .entry)) .code ⌝ }
+    ensures { λ _. ⌜ now (offset .exit) ≡ seen check (now (image .entry)) .offset ⌝ }
+    ensures { λ _. ⌜ now (partitions .exit) ≡ seen check (now (image .entry)) .amount ⌝ }
+{
+    let told = nvram::check(image).answer();
+    *offset = told.offset;
+    *partitions = told.partitions;
+    told.code
+}
+
+// The partition of an index from 0: the offset of its header, its length in blocks and its signature.
+#[no_mangle]
+pub extern "C" fn nvram_partition(
+    image: &[u8],
+    index: usize,
+    offset: &mut usize,
+    header: &mut usize,
+    blocks: &mut usize,
+    signature: &mut u8,
+) -> u32
+    ensures { λ r. ⌜ r ≡ seen (partition index) (now (image .entry)) .code ⌝ }
+    ensures { λ _. ⌜ now (offset .exit) ≡ seen (partition index) (now (image .entry)) .offset ⌝ }
+    ensures { λ _. ⌜ now (header .exit) ≡ seen (partition index) (now (image .entry)) .header ⌝ }
+    ensures { λ _. ⌜ now (blocks .exit) ≡ seen (partition index) (now (image .entry)) .blocks ⌝ }
+    ensures { λ _. ⌜ now (signature .exit) ≡ seen (partition index) (now (image .entry)) .signature ⌝ }
+{
+    let told = nvram::partition(image, index).answer();
+    *offset = told.offset;
+    *header = told.header;
+    *blocks = told.blocks as usize;
+    *signature = told.signature;
+    told.code
+}
+
+// The first partition of this signature and name: the offset of its header and its length in blocks.
+#[no_mangle]
+pub extern "C" fn nvram_find(
+    image: &[u8],
+    signature: u8,
+    name: &[u8],
+    offset: &mut usize,
+    header: &mut usize,
+    blocks: &mut usize,
+) -> u32
+    ensures { λ r. ⌜ r ≡ seen (find signature (now (name .entry))) (now (image .entry)) .code ⌝ }
+    ensures { λ _. ⌜ now (offset .exit) ≡ seen (find signature (now (name .entry))) (now (image .entry)) .offset ⌝ }
+    ensures { λ _. ⌜ now (header .exit) ≡ seen (find signature (now (name .entry))) (now (image .entry)) .header ⌝ }
+    ensures { λ _. ⌜ now (blocks .exit) ≡ seen (find signature (now (name .entry))) (now (image .entry)) .blocks ⌝ }
+{
+    let told = nvram::find(image, signature, name).answer();
+    *offset = told.offset;
+    *header = told.header;
+    *blocks = told.blocks as usize;
+    told.code
+}
+
+// The number of variables.
+#[no_mangle]
+pub extern "C" fn nvram_count(image: &[u8], offset: &mut usize, variables: &mut usize) -> u32
+    ensures { λ r. ⌜ r ≡ seen (variable count) (now (image .entry)) .code ⌝ }
+    ensures { λ _. ⌜ now (offset .exit) ≡ seen (variable count) (now (image .entry)) .offset ⌝ }
+    ensures { λ _. ⌜ now (variables .exit) ≡ seen (variable count) (now (image .entry)) .amount ⌝ }
+{
+    let told = told_count(nvram::count(image));
+    *offset = told.offset;
+    *variables = told.amount;
+    told.code
+}
+
+// Reads a variable into a buffer: the length of its value, which stands at the buffer's start.
+#[no_mangle]
+pub extern "C" fn nvram_read(
+    image: &[u8],
+    name: &[u8],
+    buffer: &mut [u8],
+    offset: &mut usize,
+    length: &mut usize,
+) -> u32
+    ensures { λ r. ⌜ r ≡ seen (variable (read (now (name .entry)) (now (buffer .entry)))) (now (image .entry)) .code ⌝ }
+    ensures { λ _. ⌜ now (offset .exit) ≡ seen (variable (read (now (name .entry)) (now (buffer .entry)))) (now (image .entry)) .offset ⌝ }
+    ensures { λ _. ⌜ now (length .exit) ≡ seen (variable (read (now (name .entry)) (now (buffer .entry)))) (now (image .entry)) .amount ⌝ }
+    ensures { λ _. ⌜ now (buffer .exit) ≡ seen (variable (read (now (name .entry)) (now (buffer .entry)))) (now (image .entry)) .buffer ⌝ }
+{
+    let told = told_read(nvram::read(image, name, buffer));
+    *offset = told.offset;
+    *length = told.amount;
+    told.code
+}
+
+// Sets a variable: its pair is replaced where it stands, or added after the last.
+#[no_mangle]
+pub extern "C" fn nvram_set(image: &mut [u8], name: &[u8], value: &[u8], offset: &mut usize) -> u32
+    ensures { λ r. ⌜ r ≡ seen (variable (set (now (name .entry)) (now (value .entry)))) (now (image .entry)) .code ⌝ }
+    ensures { λ _. ⌜ now (offset .exit) ≡ seen (variable (set (now (name .entry)) (now (value .entry)))) (now (image .entry)) .offset ⌝ }
+    ensures { λ _. ⌜ now (image .exit) ≡ seen (variable (set (now (name .entry)) (now (value .entry)))) (now (image .entry)) .image ⌝ }
+{
+    let told = told_edit(nvram::set(image, name, value));
+    *offset = told.offset;
+    told.code
+}
+
+// Removes a variable: its pair is taken out, and the pairs after it close up.
+#[no_mangle]
+pub extern "C" fn nvram_remove(image: &mut [u8], name: &[u8], offset: &mut usize) -> u32
+    ensures { λ r. ⌜ r ≡ seen (variable (remove (now (name .entry)))) (now (image .entry)) .code ⌝ }
+    ensures { λ _. ⌜ now (offset .exit) ≡ seen (variable (remove (now (name .entry)))) (now (image .entry)) .offset ⌝ }
+    ensures { λ _. ⌜ now (image .exit) ≡ seen (variable (remove (now (name .entry)))) (now (image .entry)) .image ⌝ }
+{
+    let told = told_edit(nvram::remove(image, name));
+    *offset = told.offset;
+    told.code
+}
+
+// Makes every value canonical, and zeroes what follows the pairs.
+#[no_mangle]
+pub extern "C" fn nvram_normalize(image: &mut [u8], offset: &mut usize) -> u32
+    ensures { λ r. ⌜ r ≡ seen (variable normalize) (now (image .entry)) .code ⌝ }
+    ensures { λ _. ⌜ now (offset .exit) ≡ seen (variable normalize) (now (image .entry)) .offset ⌝ }
+    ensures { λ _. ⌜ now (image .exit) ≡ seen (variable normalize) (now (image .entry)) .image ⌝ }
+{
+    let told = told_edit(nvram::normalize(image));
+    *offset = told.offset;
+    told.code
+}
+
+// Writes the listing of an image to the buffer's start: its length, or 14 and nothing written where it has no room.
+#[no_mangle]
+pub extern "C" fn nvram_listing(image: &[u8], text: &mut [u8], length: &mut usize) -> u32
+    ensures { λ r. ⌜ r ≡ listAnswer (listedOf (listingText (now (image .entry))) (List.length (now (text .entry)))) .code ⌝ }
+    ensures { λ _. ⌜ now (length .exit) ≡ listAnswer (listedOf (listingText (now (image .entry))) (List.length (now (text .entry)))) .length ⌝ }
+    ensures { λ _. ⌜ now (text .exit) ≡ listedIn (listingText (now (image .entry))) (now (text .entry)) ⌝ }
+{
+    let told = listing::listing(image, text).answer();
+    *length = told.length;
+    told.code
+}
