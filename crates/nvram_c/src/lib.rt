@@ -82,10 +82,10 @@ pub extern "C" fn nvram_check(image: &[u8], offset: &mut usize, partitions: &mut
     ensures { λ _. ⌜ now (offset .exit) ≡ seen check (now (image .entry)) .offset ⌝ }
     ensures { λ _. ⌜ now (partitions .exit) ≡ seen check (now (image .entry)) .amount ⌝ }
 {
-    let told = nvram::check(image).answer();
-    *offset = told.offset;
-    *partitions = told.partitions;
-    told.code
+    let checked = nvram::check(image).answer();
+    *offset = checked.offset;
+    *partitions = checked.partitions;
+    checked.code
 }
 
 // The partition of an index from 0: the offset of its header, its length in blocks and its signature.
@@ -104,12 +104,12 @@ pub extern "C" fn nvram_partition(
     ensures { λ _. ⌜ now (blocks .exit) ≡ seen (partition index) (now (image .entry)) .blocks ⌝ }
     ensures { λ _. ⌜ now (signature .exit) ≡ seen (partition index) (now (image .entry)) .signature ⌝ }
 {
-    let told = nvram::partition(image, index).answer();
-    *offset = told.offset;
-    *header = told.header;
-    *blocks = told.blocks as usize;
-    *signature = told.signature;
-    told.code
+    let indexed = nvram::partition(image, index).answer();
+    *offset = indexed.offset;
+    *header = indexed.header;
+    *blocks = indexed.blocks as usize;
+    *signature = indexed.signature;
+    indexed.code
 }
 
 // The first partition of this signature and name: the offset of its header and its length in blocks.
@@ -127,11 +127,11 @@ pub extern "C" fn nvram_find(
     ensures { λ _. ⌜ now (header .exit) ≡ seen (find signature (now (name .entry))) (now (image .entry)) .header ⌝ }
     ensures { λ _. ⌜ now (blocks .exit) ≡ seen (find signature (now (name .entry))) (now (image .entry)) .blocks ⌝ }
 {
-    let told = nvram::find(image, signature, name).answer();
-    *offset = told.offset;
-    *header = told.header;
-    *blocks = told.blocks as usize;
-    told.code
+    let found = nvram::find(image, signature, name).answer();
+    *offset = found.offset;
+    *header = found.header;
+    *blocks = found.blocks as usize;
+    found.code
 }
 
 // The number of variables.
@@ -141,10 +141,10 @@ pub extern "C" fn nvram_count(image: &[u8], offset: &mut usize, variables: &mut 
     ensures { λ _. ⌜ now (offset .exit) ≡ seen (variable count) (now (image .entry)) .offset ⌝ }
     ensures { λ _. ⌜ now (variables .exit) ≡ seen (variable count) (now (image .entry)) .amount ⌝ }
 {
-    let told = told_count(nvram::count(image));
-    *offset = told.offset;
-    *variables = told.amount;
-    told.code
+    let counted = told_count(nvram::count(image));
+    *offset = counted.offset;
+    *variables = counted.amount;
+    counted.code
 }
 
 // Reads a variable into a buffer: the length of its value, which stands at the buffer's start.
@@ -161,10 +161,10 @@ pub extern "C" fn nvram_read(
     ensures { λ _. ⌜ now (length .exit) ≡ seen (variable (read (now (name .entry)) (now (buffer .entry)))) (now (image .entry)) .amount ⌝ }
     ensures { λ _. ⌜ now (buffer .exit) ≡ seen (variable (read (now (name .entry)) (now (buffer .entry)))) (now (image .entry)) .buffer ⌝ }
 {
-    let told = told_read(nvram::read(image, name, buffer));
-    *offset = told.offset;
-    *length = told.amount;
-    told.code
+    let reading = told_read(nvram::read(image, name, buffer));
+    *offset = reading.offset;
+    *length = reading.amount;
+    reading.code
 }
 
 // Sets a variable: its pair is replaced where it stands, or added after the last.
@@ -174,9 +174,9 @@ pub extern "C" fn nvram_set(image: &mut [u8], name: &[u8], value: &[u8], offset:
     ensures { λ _. ⌜ now (offset .exit) ≡ seen (variable (set (now (name .entry)) (now (value .entry)))) (now (image .entry)) .offset ⌝ }
     ensures { λ _. ⌜ now (image .exit) ≡ seen (variable (set (now (name .entry)) (now (value .entry)))) (now (image .entry)) .image ⌝ }
 {
-    let told = told_edit(nvram::set(image, name, value));
-    *offset = told.offset;
-    told.code
+    let setting = told_edit(nvram::set(image, name, value));
+    *offset = setting.offset;
+    setting.code
 }
 
 // Removes a variable: its pair is taken out, and the pairs after it close up.
@@ -186,9 +186,9 @@ pub extern "C" fn nvram_remove(image: &mut [u8], name: &[u8], offset: &mut usize
     ensures { λ _. ⌜ now (offset .exit) ≡ seen (variable (remove (now (name .entry)))) (now (image .entry)) .offset ⌝ }
     ensures { λ _. ⌜ now (image .exit) ≡ seen (variable (remove (now (name .entry)))) (now (image .entry)) .image ⌝ }
 {
-    let told = told_edit(nvram::remove(image, name));
-    *offset = told.offset;
-    told.code
+    let removal = told_edit(nvram::remove(image, name));
+    *offset = removal.offset;
+    removal.code
 }
 
 // Makes every value canonical, and zeroes what follows the pairs.
@@ -198,9 +198,9 @@ pub extern "C" fn nvram_normalize(image: &mut [u8], offset: &mut usize) -> u32
     ensures { λ _. ⌜ now (offset .exit) ≡ seen (variable normalize) (now (image .entry)) .offset ⌝ }
     ensures { λ _. ⌜ now (image .exit) ≡ seen (variable normalize) (now (image .entry)) .image ⌝ }
 {
-    let told = told_edit(nvram::normalize(image));
-    *offset = told.offset;
-    told.code
+    let normal = told_edit(nvram::normalize(image));
+    *offset = normal.offset;
+    normal.code
 }
 
 // Writes the listing of an image to the buffer's start: its length, or 14 and nothing written where it has no room.
@@ -210,7 +210,7 @@ pub extern "C" fn nvram_listing(image: &[u8], text: &mut [u8], length: &mut usiz
     ensures { λ _. ⌜ now (length .exit) ≡ listAnswer (listedOf (listingText (now (image .entry))) (List.length (now (text .entry)))) .length ⌝ }
     ensures { λ _. ⌜ now (text .exit) ≡ listedIn (listingText (now (image .entry))) (now (text .entry)) ⌝ }
 {
-    let told = listing::listing(image, text).answer();
-    *length = told.length;
-    told.code
+    let listed = listing::listing(image, text).answer();
+    *length = listed.length;
+    listed.code
 }
