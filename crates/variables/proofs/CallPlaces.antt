@@ -2,7 +2,7 @@
 use Prim.Native.Nat.{ℕ, zero, suc, _+_, _<_, _≤_}
 use mathlib.Core.Path.{_≡_, refl, sym, ap, _∙_}
 use mathlib.Core.Bool.{true, false}
-use mathlib.Core.List.{List}
+use mathlib.Core.List.{List, []}
 use native.Mathlib.Omega.{arith}
 use lib.ListN.{length, length-append}
 use borrow.Author.Tests.{lt-ltb, le-ltb}
@@ -20,29 +20,30 @@ use Rattle.variables.specs.declared.Place.{Place}
 use Rattle.variables.specs.declared.Place.the-variants.{At, None}
 use Rattle.variables.specs.Scan.{Stand, pair, finish, cut, wrongName, wrongEscape, standAt}
 use Rattle.variables.specs.Area.{Pair, pairsBytes, Parse, parsed, faulty, parse}
-use Rattle.variables.specs.Edits.{Lookup, found, lookup}
+use Rattle.variables.specs.Edits.{Lookup, found, missing, lookup}
 use Rattle.variables.specs.Calls.{Call, count, read, Reply, done, refused, Outcome, refuse, wellNamed, readBy, callPairs, callArea}
-use Rattle.variables.specs.Places.{scannedOf, onFind, findFrom, findAt, valueAt, pairRead}
+use Rattle.variables.specs.Places.{scannedOf, onFind, findFrom, findAt, Sought, valueAt, pairRead}
 use Rattle.variables.proofs.PairPlaces.{pair-here}
 use Rattle.variables.proofs.FoundLaws.{parsed-ended, FoundAt, find-found, find-missing, lookup-split, found-stored}
 
 -- ---- the area's parse, by the code's scan
 
-pub record PairsOf (p : Parse) (n used : ℕ) : Type 0 where
+pub record PairsOf (p : Parse) (sought : Place) (n used : ℕ) (place : Place) : Type 0 where
   pub pairs : List Pair
   pub is : p ≡ parsed pairs
   pub counted : n ≡ length pairs
   pub long : used ≡ length (pairsBytes pairs)
+  pub there : place ≡ sought
 
-pub scanned-pairs : (p : Parse) (n used : ℕ) → Pairs n used ≡ scannedOf p → PairsOf p n used
+pub scanned-pairs : (p : Parse) (sought : Place) (n used : ℕ) (place : Place) → Pairs n used place ≡ scannedOf p sought → PairsOf p sought n used place
 unfolding scannedOf
-scanned-pairs (parsed ps) n used e = record { pairs = ps; is = refl; counted = cc; long = cc }
-scanned-pairs (faulty k) n used e = clash cc
+scanned-pairs (parsed ps) sought n used place e = record { pairs = ps; is = refl; counted = cc; long = cc; there = cc }
+scanned-pairs (faulty k) sought n used place e = clash cc
 
-pub scanned-refused : (p : Parse) (k : Error) → Refused k ≡ scannedOf p → p ≡ faulty k
+pub scanned-refused : (p : Parse) (sought : Place) (k : Error) → Refused k ≡ scannedOf p sought → p ≡ faulty k
 unfolding scannedOf
-scanned-refused (parsed ps) k e = clash cc
-scanned-refused (faulty j) k e = cc
+scanned-refused (parsed ps) sought k e = clash cc
+scanned-refused (faulty j) sought k e = cc
 
 -- ---- a call
 
@@ -69,15 +70,16 @@ wrong-told name k e = ap isGood (sym e)
 
 -- ---- count
 
-pub count-pairs : (area : List ℕ) (n used : ℕ) → Pairs n used ≡ scannedOf (parse area) → done n ≡ callArea count area .reply
+pub count-pairs : (area : List ℕ) (sought : Place) (n used : ℕ) (place : Place) → Pairs n used place ≡ scannedOf (parse area) sought → done n ≡ callArea count area .reply
 unfolding wellNamed callPairs
-count-pairs area n used e =
-    let p = scanned-pairs (parse area) n used e in
+count-pairs area sought n used place e =
+    let p = scanned-pairs (parse area) sought n used place e in
     ap done (p .counted) ∙ sym (ap (λ (o : Outcome). o .reply) (call-parsed count area refl (p .pairs) (p .is)))
 
-pub count-refused : (area : List ℕ) (k : Error) → Refused k ≡ scannedOf (parse area) → refused k ≡ callArea count area .reply
+pub count-refused : (area : List ℕ) (sought : Place) (k : Error) → Refused k ≡ scannedOf (parse area) sought → refused k ≡ callArea count area .reply
 unfolding wellNamed
-count-refused area k e = sym (ap (λ (o : Outcome). o .reply) (call-faulty count area refl k (scanned-refused (parse area) k e)))
+count-refused area sought k e =
+    sym (ap (λ (o : Outcome). o .reply) (call-faulty count area refl k (scanned-refused (parse area) sought k e)))
 
 -- ---- read
 
@@ -104,9 +106,11 @@ find-from name (suc n) at l s q e h = go (standAt l) refl h (find-from name n)
         (omega arith, omega arith))
         (λ t. let r = ih (at + length m + length stored + 2) next s q e (rw t at f) in (r .0, omega (arith, r .1)))
 
-pub find-inside : (area name : List ℕ) (s q e : ℕ) → At s q e ≡ findAt area name → (q + 1 ≤ e) × (e < length area)
+pub place-inside : (area : List ℕ) (place : Place) → Sought area place → (s q e : ℕ) → place ≡ At s q e → (q + 1 ≤ e) × (e < length area)
 unfolding findAt
-find-inside area name s q e h = let r = find-from name (suc (length area)) 0 area s q e (sym h) in (r .0, omega (arith, r .1))
+place-inside area place k s q e h =
+    let r = find-from (k .name) (suc (length area)) 0 area s q e (sym (k .is) ∙ h) in
+    (r .0, omega (arith, r .1))
 
 -- what a read answers, and the buffer afterwards
 pub record Reads (o : Outcome) (reply : Reply) (buffer : List ℕ) : Type 0 where
@@ -116,18 +120,18 @@ pub record Reads (o : Outcome) (reply : Reply) (buffer : List ℕ) : Type 0 wher
 pub reads-as : {o o′ : Outcome} {reply : Reply} {buffer : List ℕ} → o ≡ o′ → Reads o reply buffer → Reads o′ reply buffer
 reads-as e r = record { replied = r .replied ∙ ap (λ (o : Outcome). o .reply) e; left = r .left ∙ ap (λ (o : Outcome). o .buffer) e }
 
-module _ (name buffer area : List ℕ) where
-  pub read-missing : None ≡ findAt area name → Reads (pairRead name buffer area) (refused NoVariable) buffer
+module _ (place : Place) (buffer area : List ℕ) where
+  pub read-missing : place ≡ None → Reads (pairRead place buffer area) (refused NoVariable) buffer
   unfolding pairRead valueAt
-  read-missing h = rw (sym h) (record { replied = refl; left = refl })
+  read-missing h = rw h (record { replied = refl; left = refl })
 
-  module _ (s q e : ℕ) (h : At s q e ≡ findAt area name) where
-    value-is : pairRead name buffer area ≡ readBy (found (decode (part area (q + 1) e))) name buffer area
+  module _ (s q e : ℕ) (h : place ≡ At s q e) where
+    value-is : pairRead place buffer area ≡ readBy (found (decode (part area (q + 1) e))) [] buffer area
     unfolding pairRead valueAt
-    value-is = rw (sym h)
+    value-is = rw h
 
     pub read-fits : (n : ℕ) (b : List ℕ) → Length n ≡ writtenOf (decode (part area (q + 1) e)) (length buffer)
-        → b ≡ writtenIn (decode (part area (q + 1) e)) buffer → Reads (pairRead name buffer area) (done n) b
+        → b ≡ writtenIn (decode (part area (q + 1) e)) buffer → Reads (pairRead place buffer area) (done n) b
     read-fits n b w i =
         let v : List ℕ = decode (part area (q + 1) e) in
         let k = length-told v (length buffer) n (sym w) in
@@ -136,7 +140,7 @@ module _ (name buffer area : List ℕ) where
         (rw (le-ltb (length buffer) (length v) f) (record { replied = ap done (k .0); left = i ∙ pasted-in v buffer f }))
 
     pub read-short : (b : List ℕ) → NoRoom ≡ writtenOf (decode (part area (q + 1) e)) (length buffer)
-        → b ≡ writtenIn (decode (part area (q + 1) e)) buffer → Reads (pairRead name buffer area) (refused ShortBuffer) b
+        → b ≡ writtenIn (decode (part area (q + 1) e)) buffer → Reads (pairRead place buffer area) (refused ShortBuffer) b
     read-short b w i =
         let v : List ℕ = decode (part area (q + 1) e) in
         let f : length buffer < length v = no-room-told v (length buffer) (sym w) in
@@ -161,14 +165,25 @@ module _ (name buffer area : List ℕ) where
   read-misnamed k e = reads-as (sym (call-misnamed (read name buffer) area (wrong-told name k e))) (record { replied = refl; left = refl })
 
   module _ (g : Good ≡ nameCheck name) where
-    pub read-refused : (k : Error) → Refused k ≡ scannedOf (parse area) → Reads (callArea (read name buffer) area) (refused k) buffer
+    pub read-refused : (sought : Place) (k : Error) → Refused k ≡ scannedOf (parse area) sought → Reads (callArea (read name buffer) area) (refused k) buffer
     unfolding wellNamed
-    read-refused k e =
-        reads-as (sym (call-faulty (read name buffer) area (good-told name g) k (scanned-refused (parse area) k e))) (record { replied = refl; left = refl })
+    read-refused sought k e =
+        reads-as (sym (call-faulty (read name buffer) area (good-told name g) k (scanned-refused (parse area) sought k e))) (record { replied = refl; left = refl })
 
-    pub read-pairs : (n used : ℕ) → Pairs n used ≡ scannedOf (parse area) → pairRead name buffer area ≡ callArea (read name buffer) area
+    pub read-pairs : (n used : ℕ) (place : Place) → Pairs n used place ≡ scannedOf (parse area) (findAt area name)
+        → pairRead place buffer area ≡ callArea (read name buffer) area
     unfolding wellNamed callPairs pairRead
-    read-pairs n used e =
-        let p = scanned-pairs (parse area) n used e in
-        ap (λ (l : Lookup). readBy l name buffer area) (value-found area name (p .pairs) (p .is))
+    read-pairs n used place e =
+        let p = scanned-pairs (parse area) (findAt area name) n used place e in
+        ap (λ (x : Place). readBy (valueAt area x) [] buffer area) (p .there)
+        ∙ ap (λ (l : Lookup). readBy l [] buffer area) (value-found area name (p .pairs) (p .is))
+        ∙ nameless (lookup name (p .pairs))
         ∙ sym (call-parsed (read name buffer) area (good-told name g) (p .pairs) (p .is))
+      where
+        nameless : (l : Lookup) → readBy l [] buffer area ≡ readBy l name buffer area
+        nameless (found value) = refl
+        nameless missing = refl
+
+-- the place that a scan answers
+pub place-sought : (area name : List ℕ) (n used : ℕ) (place : Place) → Pairs n used place ≡ scannedOf (parse area) (findAt area name) → Sought area place
+place-sought area name n used place e = record { name = name; is = scanned-pairs (parse area) (findAt area name) n used place e .there }

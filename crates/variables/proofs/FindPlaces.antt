@@ -16,7 +16,7 @@ use Rattle.variables.specs.declared.PairAt.the-variants as PairAt
 use Rattle.variables.specs.declared.Place.{Place}
 use Rattle.variables.specs.declared.Place.the-variants.{At, None}
 use Rattle.variables.specs.Scan.{Stand, pair, finish, cut, wrongName, wrongEscape, standAt}
-use Rattle.variables.specs.Places.{placeOf, onFind, findFrom, findAt}
+use Rattle.variables.specs.Places.{placeOf, onFind, findFrom, findAt, firstPlace}
 use Rattle.variables.proofs.PairPlaces.{pair-here, PairSeen}
 
 -- the name of a pair that the code has seen
@@ -28,29 +28,29 @@ seen-name {area} {at} {q} p =
 
 -- ---- over the pairs
 
--- the search goes on at the offset at
-pub record Finding (area name : List ℕ) (at : ℕ) : Type 0 where
+-- the search goes on at the offset at, and has found the place so far
+pub record Finding (area name : List ℕ) (place : Place) (at : ℕ) : Type 0 where
   pub bound : ℕ
   pub enough : length area < at + bound
-  pub left : findAt area name ≡ findFrom bound name at (drop at area)
+  pub left : findAt area name ≡ firstPlace place (findFrom bound name at (drop at area))
   pub inside : at ≤ length area
 
-pub finding-none : (area name : List ℕ) → Finding area name 0
-unfolding findAt
+pub finding-none : (area name : List ℕ) → Finding area name None 0
+unfolding findAt firstPlace
 finding-none area name = record { bound = suc (length area); enough = omega arith; left = refl; inside = omega arith }
 
 -- one turn more is within the bound
-turn : {area name : List ℕ} {at : ℕ} → Finding area name at
-    → (n : ℕ) × (length area ≤ at + n) × (findAt area name ≡ onFind (standAt (drop at area)) name at (λ a r. findFrom n name a r))
+turn : {area name : List ℕ} {place : Place} {at : ℕ} → Finding area name place at
+    → (n : ℕ) × (length area ≤ at + n) × (findAt area name ≡ firstPlace place (onFind (standAt (drop at area)) name at (λ a r. findFrom n name a r)))
 unfolding findFrom
-turn {area} {name} {at} s = go (s .bound) (s .enough) (s .left)
+turn {area} {name} {place} {at} s = go (s .bound) (s .enough) (s .left)
   where
-    go : (n : ℕ) → length area < at + n → findAt area name ≡ findFrom n name at (drop at area)
-        → (m : ℕ) × (length area ≤ at + m) × (findAt area name ≡ onFind (standAt (drop at area)) name at (λ a r. findFrom m name a r))
+    go : (n : ℕ) → length area < at + n → findAt area name ≡ firstPlace place (findFrom n name at (drop at area))
+        → (m : ℕ) × (length area ≤ at + m) × (findAt area name ≡ firstPlace place (onFind (standAt (drop at area)) name at (λ a r. findFrom m name a r)))
     go zero h e = absurd (omega (arith, s .inside))
     go (suc n) h e = (n, omega arith, e)
 
-none-at : (at : ℕ) (name : List ℕ) (go : ℕ → List ℕ → Place) (s : Stand) → ((q e : ℕ) → placeOf at s ≡ PairAt.Pair q e → ⊥) → None ≡ onFind s name at go
+none-at : (at : ℕ) (name : List ℕ) (go : ℕ → List ℕ → Place) (s : Stand) → ((q e : ℕ) → placeOf at s ≡ PairAt.Pair q e → ⊥) → onFind s name at go ≡ None
 unfolding placeOf
 none-at at name go (pair n stored rest) h = absurd (h _ _ refl)
 none-at at name go finish h = refl
@@ -58,19 +58,37 @@ none-at at name go cut h = refl
 none-at at name go (wrongName k) h = refl
 none-at at name go (wrongEscape k) h = refl
 
-module _ {area name : List ℕ} {at : ℕ} (s : Finding area name at) where
-  pub finding-end : (x : PairAt) → x ≡ placeOf at (standAt (drop at area)) → ((q e : ℕ) → x ≡ PairAt.Pair q e → ⊥) → None ≡ findAt area name
-  finding-end x e h = let t = turn s in none-at at name _ (standAt (drop at area)) (λ q e′ f. h q e′ (e ∙ f)) ∙ sym (t .2)
+first-none : (x : Place) → firstPlace x None ≡ x
+unfolding firstPlace
+first-none (At start equals end) = refl
+first-none None = refl
+
+first-first : (x : Place) (start equals end : ℕ) (y : Place) → firstPlace x (At start equals end) ≡ firstPlace (firstPlace x (At start equals end)) y
+unfolding firstPlace
+first-first (At s q e) start equals end y = refl
+first-first None start equals end y = refl
+
+module _ {area name : List ℕ} {place : Place} {at : ℕ} (s : Finding area name place at) where
+  pub finding-end : (x : PairAt) → x ≡ placeOf at (standAt (drop at area)) → ((q e : ℕ) → x ≡ PairAt.Pair q e → ⊥) → findAt area name ≡ place
+  finding-end x e h =
+      let t = turn s in
+      t .2 ∙ ap (firstPlace place) (none-at at name _ (standAt (drop at area)) (λ q e′ f. h q e′ (e ∙ f))) ∙ first-none place
 
   module _ {q e : ℕ} (p : PairSeen area at q e) where
-    pub finding-at : sameBytes name (part area at q) ≡ true → At at q e ≡ findAt area name
-    finding-at h =
+    pub finding-same : sameBytes name (part area at q) ≡ true → (x : Place) → x ≡ firstPlace place (At at q e) → Finding area name x (e + 1)
+    finding-same h x ex =
         let t = turn s in
         let f : sameBytes name (p .name) ≡ true = ap (sameBytes name) (sym (seen-name p)) ∙ h in
         let g : e ≡ at + length (p .name) + 1 + length (p .stored) = omega (arith, p .equals, p .end) in
-        (λ i. At at (p .equals i) (g i)) ∙ sym (t .2 ∙ rw (p .stand, f))
+        let k : findAt area name ≡ firstPlace place (At at q e) = t .2 ∙ rw (p .stand, f) (λ i. firstPlace place (At at (sym (p .equals) i) (sym g i))) in
+        record {
+          bound = t .0;
+          enough = omega (arith, t .1, p .equals, p .end);
+          left = k ∙ first-first place at q e _ ∙ ap (λ (y : Place). firstPlace y (findFrom (t .0) name (e + 1) (drop (e + 1) area))) (sym ex);
+          inside = omega (arith, p .inside);
+        }
 
-    pub finding-next : sameBytes name (part area at q) ≡ false → Finding area name (e + 1)
+    pub finding-next : sameBytes name (part area at q) ≡ false → Finding area name place (e + 1)
     finding-next h =
         let t = turn s in
         let f : sameBytes name (p .name) ≡ false = ap (sameBytes name) (sym (seen-name p)) ∙ h in
@@ -78,7 +96,7 @@ module _ {area name : List ℕ} {at : ℕ} (s : Finding area name at) where
         record {
           bound = t .0;
           enough = omega (arith, t .1, p .equals, p .end);
-          left = t .2 ∙ rw (p .stand, f) (λ i. findFrom (t .0) name (g i) (p .follows i));
+          left = t .2 ∙ rw (p .stand, f) (λ i. firstPlace place (findFrom (t .0) name (g i) (p .follows i)));
           inside = omega (arith, p .inside);
         }
 

@@ -14,10 +14,12 @@ use Rattle.repeats.specs.declared.Repeat.the-variants.{At, None}
 use Rattle.repeats.specs.Pieces.{stands, endsName, nameOf, nameAt, startsFrom, starts, repeatIn, firstRepeat}
 use Rattle.variables.specs.declared.PairAt.{PairAt}
 use Rattle.variables.specs.declared.PairAt.the-variants as PairAt
-use Rattle.variables.specs.declared.Scanned.the-variants.{Pairs, Refused}
+use Rattle.variables.specs.declared.Scanned.{Scanned}
+use Rattle.variables.specs.declared.Scanned.the-variants.{Pairs}
+use Rattle.variables.specs.declared.Place.{Place}
 use Rattle.variables.specs.Scan.{Stand, pair, finish, cut, wrongName, wrongEscape, standAt}
 use Rattle.variables.specs.Area.{Pair, pairOf, pairBytes, pairsBytes, Parse, parsed, faulty, firstPair, onStand, parseFrom, parse}
-use Rattle.variables.specs.Places.{placeOf, scannedOf, orRepeat}
+use Rattle.variables.specs.Places.{placeOf, scannedOf, closedOf, orRepeat}
 use Rattle.variables.proofs.PairPlaces.{Goes, NotZero, drop-past, pair-here}
 use Rattle.variables.proofs.PairRuns.{PairRun, none, more, pair-bytes, CleanPairs, run-clean, Walked, walked-length, walked-take}
 use Rattle.variables.proofs.ParseLaws.{length-pair}
@@ -181,44 +183,40 @@ tail-is at past go seen cut h = refl
 tail-is at past go seen (wrongName k) h = refl
 tail-is at past go seen (wrongEscape k) h = refl
 
-scanned-joined : (r : Repeat) (p : Parse) → orRepeat r (scannedOf p) ≡ scannedOf (joinParse r p)
+scanned-joined : (r : Repeat) (p : Parse) (x : Place) → orRepeat r (scannedOf p x) ≡ scannedOf (joinParse r p) x
 unfolding orRepeat scannedOf
-scanned-joined (At at) p = refl
-scanned-joined None p = refl
+scanned-joined (At at) p x = refl
+scanned-joined None p x = refl
 
-module _ {area : List ℕ} {at count : ℕ} (w : Walked area at count) where
+module _ {area : List ℕ} {at count : ℕ} (w : Walked area at count) (place : Place) where
   walked-tail : (x : PairAt) → x ≡ placeOf at (standAt (drop at area)) → ((q e : ℕ) → x ≡ PairAt.Pair q e → ⊥)
-      → orRepeat (firstRepeat (take at area)) (scannedOf (prefixed (w .pairs) (tailParse (length area) x))) ≡ scannedOf (parse area)
+      → orRepeat (firstRepeat (take at area)) (scannedOf (prefixed (w .pairs) (tailParse (length area) x)) place) ≡ scannedOf (parse area) place
   unfolding parse parseFrom
   walked-tail x e h =
       let t : Parse = tailParse (length area) x in
-      ap (λ (l : List ℕ). orRepeat (firstRepeat l) (scannedOf (prefixed (w .pairs) t))) (walked-take w)
-      ∙ ap (λ (r : Repeat). orRepeat r (scannedOf (prefixed (w .pairs) t))) (first-repeat-pairs (run-clean (w .run)))
-      ∙ scanned-joined (repeatPairs 0 [] (w .pairs)) (prefixed (w .pairs) t)
-      ∙ ap scannedOf (sym
+      ap (λ (l : List ℕ). orRepeat (firstRepeat l) (scannedOf (prefixed (w .pairs) t) place)) (walked-take w)
+      ∙ ap (λ (r : Repeat). orRepeat r (scannedOf (prefixed (w .pairs) t) place)) (first-repeat-pairs (run-clean (w .run)))
+      ∙ scanned-joined (repeatPairs 0 [] (w .pairs)) (prefixed (w .pairs) t) place
+      ∙ ap (λ (p : Parse). scannedOf p place) (sym
       (parse-run (w .run) t (suc (length area)) [] 0 at (length area) (omega arith) (omega (arith, walked-length w))
       (λ m s.
       tail-is at (length area) (λ s a r. parseFrom m s a (length area) r) s (standAt (drop at area)) (λ q e′ f. h q e′ (e ∙ f))
       ∙ ap (tailParse (length area)) (sym e))))
 
-  pub walked-end : PairAt.End ≡ placeOf at (standAt (drop at area)) → orRepeat (firstRepeat (take at area)) (Pairs count at) ≡ scannedOf (parse area)
-  unfolding scannedOf
-  walked-end e =
-      let p : scannedOf (parsed (w .pairs ++ [])) ≡ Pairs count at =
-      ap (λ (ps : List Pair). Pairs (length ps) (length (pairsBytes ps))) (append-nil (w .pairs)) ∙ (λ i. Pairs (w .counted i) (walked-length w i)) in
-      ap (orRepeat (firstRepeat (take at area))) (sym p) ∙ walked-tail PairAt.End e (λ q e′ f. clash cc)
+  -- what ends the pairs, as the pairs before it and a parse
+  closed-tail : (x : PairAt) → ((q e : ℕ) → x ≡ PairAt.Pair q e → ⊥)
+      → closedOf x (length area) count at place ≡ scannedOf (prefixed (w .pairs) (tailParse (length area) x)) place
+  unfolding scannedOf closedOf
+  closed-tail (PairAt.Pair q e) h = absurd (h q e refl)
+  closed-tail PairAt.End h =
+      (λ i. Pairs (sym (w .counted) i) (sym (walked-length w) i) place)
+      ∙ ap (λ (ps : List Pair). Pairs (length ps) (length (pairsBytes ps)) place) (sym (append-nil (w .pairs)))
+  closed-tail PairAt.Cut h = refl
+  closed-tail (PairAt.WrongName k) h = refl
+  closed-tail (PairAt.WrongEscape k) h = refl
 
-  pub walked-cut : PairAt.Cut ≡ placeOf at (standAt (drop at area))
-      → orRepeat (firstRepeat (take at area)) (Refused (AreaEnd (length area))) ≡ scannedOf (parse area)
-  unfolding scannedOf
-  walked-cut e = walked-tail PairAt.Cut e (λ q e′ f. clash cc)
-
-  pub walked-name : (k : ℕ) → PairAt.WrongName k ≡ placeOf at (standAt (drop at area))
-      → orRepeat (firstRepeat (take at area)) (Refused (StoredName k)) ≡ scannedOf (parse area)
-  unfolding scannedOf
-  walked-name k e = walked-tail (PairAt.WrongName k) e (λ q e′ f. clash cc)
-
-  pub walked-escape : (k : ℕ) → PairAt.WrongEscape k ≡ placeOf at (standAt (drop at area))
-      → orRepeat (firstRepeat (take at area)) (Refused (Escape k)) ≡ scannedOf (parse area)
-  unfolding scannedOf
-  walked-escape k e = walked-tail (PairAt.WrongEscape k) e (λ q e′ f. clash cc)
+  pub walked-end : (x : PairAt) → x ≡ placeOf at (standAt (drop at area)) → ((q e : ℕ) → x ≡ PairAt.Pair q e → ⊥)
+      → (out r : Scanned) → out ≡ closedOf x (length area) count at place → r ≡ orRepeat (firstRepeat (take at area)) out → (sought : Place) → sought ≡ place
+      → r ≡ scannedOf (parse area) sought
+  walked-end x e h out r eo er sought es =
+      er ∙ ap (orRepeat (firstRepeat (take at area))) (eo ∙ closed-tail x h) ∙ walked-tail x e h ∙ ap (scannedOf (parse area)) (sym es)

@@ -19,8 +19,8 @@ use Rattle.values.proofs.RecodeLaws.{Recodable, recoded-taken, recoded-short}
 use Rattle.header.specs.declared.Error.{Error}
 use Rattle.variables.specs.declared.PairAt.{PairAt}
 use Rattle.variables.specs.declared.PairAt.the-variants as PairAt
-use Rattle.variables.specs.declared.Scanned.{Scanned}
 use Rattle.variables.specs.declared.Scanned.the-variants as Scanned
+use Rattle.variables.specs.declared.Place.{Place}
 use Rattle.variables.specs.Scan.{pair, finish, standAt}
 use Rattle.variables.specs.Area.{Pair, pairBytes, pairsBytes, Parse, parsed, faulty, parse}
 use Rattle.variables.specs.Edits.{areaOf, canonicalPair, normalizePairs}
@@ -32,6 +32,7 @@ use Rattle.variables.proofs.ParseLaws.{Good, none, more, pair-front, ar
 use Rattle.variables.proofs.LeavesLaws.{pairs-append}
 use Rattle.variables.proofs.SpliceLaws.{area-zeros}
 use Rattle.variables.proofs.PairPlaces.{drop-past, past-inside}
+use Rattle.variables.proofs.CallPlaces.{scanned-pairs, scanned-refused}
 
 -- ---- one pair: d is the area before, d₁ with the name moved, d₂ with the value made canonical
 
@@ -335,24 +336,16 @@ module _ {d b : List ℕ} {at to : ℕ} (n : Normalizing d b at to) where
 
 -- ---- the whole area
 
-scanned-parses : (x : Parse) (k u : ℕ) → Scanned.Pairs k u ≡ scannedOf x → (ps : List Pair) × (x ≡ parsed ps)
-unfolding scannedOf
-scanned-parses (parsed ps) k u h = (ps, refl)
-scanned-parses (faulty e) k u h = clash cc
-
-pub scan-parses : (d : List ℕ) (k u : ℕ) → Scanned.Pairs k u ≡ scannedOf (parse d) → Parses d
-scan-parses d k u h = let p = scanned-parses (parse d) k u h in record { pairs = p .0; reads = p .1 }
-
-scanned-faulty : (x : Parse) (e : Error) → Scanned.Refused e ≡ scannedOf x → x ≡ faulty e
-unfolding scannedOf
-scanned-faulty (parsed ps) e h = clash cc
-scanned-faulty (faulty f) e h = cc
+pub scan-parses : (d : List ℕ) (sought : Place) (k u : ℕ) (place : Place) → Scanned.Pairs k u place ≡ scannedOf (parse d) sought → Parses d
+scan-parses d sought k u place h =
+    let p = scanned-pairs (parse d) sought k u place h in
+    record { pairs = p .pairs; reads = p .is }
 
 -- a fault refuses the call
-pub normalize-refused : (d : List ℕ) (e : Error) → Scanned.Refused e ≡ scannedOf (parse d)
+pub normalize-refused : (d : List ℕ) (sought : Place) (e : Error) → Scanned.Refused e ≡ scannedOf (parse d) sought
     → (refused e ≡ callArea normalize d .reply) × (d ≡ callArea normalize d .area)
 unfolding callArea wellNamed
-normalize-refused d e h = let k = scanned-faulty (parse d) e h in (rw k, rw k)
+normalize-refused d sought e h = let k = scanned-refused (parse d) sought e h in (rw k, rw k)
 
 -- the pairs in canonical form, and the rest zeroed
 pub normalize-done : {d : List ℕ} → Parses d → (n : ℕ) → n < length d → n ≡ length (normalizedBytes (parse d)) → (d₁ : List ℕ)

@@ -15,6 +15,7 @@ use Rattle.header.specs.declared.Error.the-variants.{NoRoom, NoVariable, BadNam
 use Rattle.names.specs.declared.NameCheck.the-variants.{Good, Wrong}
 use Rattle.names.specs.Name.{nameCheck, goodName}
 use Rattle.variables.specs.declared.Scanned.the-variants as Scanned
+use Rattle.variables.specs.declared.Place.{Place}
 use Rattle.variables.specs.declared.Place.the-variants.{At, None}
 use Rattle.variables.specs.Area.{Pair, pairOf, pairBytes, pairsBytes, Parse, parse, parsed, faulty}
 use Rattle.variables.specs.Edits.{areaOf, canonicalPair, setPair, removePair, Lookup, lookup, found, missing}
@@ -30,8 +31,11 @@ use Rattle.variables.proofs.LeavesLaws.{pairs-append}
 use Rattle.variables.proofs.FoundLaws.{FoundAt, find-found, find-missing, lookup-split, remove-split, set-split}
 
 -- the offset that a scan of the whole area answers
-pub scan-used : (area : List ℕ) (n used : ℕ) → Scanned.Pairs n used ≡ scannedOf (parse area) → Used area used
-scan-used area n used e = let p = scanned-pairs (parse area) n used e in record { pairs = p .pairs; parses = p .is; is = p .long }
+pub scan-used : (area name : List ℕ) (n used : ℕ) (place : Place) → Scanned.Pairs n used place ≡ scannedOf (parse area) (findAt area name)
+    → Used area used × (place ≡ findAt area name)
+scan-used area name n used place e =
+    let p = scanned-pairs (parse area) (findAt area name) n used place e in
+    (record { pairs = p .pairs; parses = p .is; is = p .long }, p .there)
 
 pub used-inside : {area : List ℕ} {used : ℕ} → Used area used → used + 1 ≤ length area
 used-inside {area} u = omega (arith, u .is, read-room (area-read area (u .pairs) (u .parses)))
@@ -209,8 +213,9 @@ module _ (call : Calls.Call) (name : List ℕ) (takes : Calls.wellNamed call ≡
   edit-misnamed k w = outcome-told (Calls.callArea call area) _ (call-misnamed call area (takes ∙ wrong-told name k w))
 
   module _ (g : Good ≡ nameCheck name) where
-    pub edit-faulty : (e : Error) → Scanned.Refused e ≡ scannedOf (parse area) → Told (Calls.callArea call area) (refused e) area
-    edit-faulty e s = outcome-told (Calls.callArea call area) _ (call-faulty call area (takes ∙ good-told name g) e (scanned-refused (parse area) e s))
+    pub edit-faulty : (sought : Place) (e : Error) → Scanned.Refused e ≡ scannedOf (parse area) sought → Told (Calls.callArea call area) (refused e) area
+    edit-faulty sought e s =
+        outcome-told (Calls.callArea call area) _ (call-faulty call area (takes ∙ good-told name g) e (scanned-refused (parse area) sought e s))
 
     pub edit-parsed : {reply : Calls.Reply} {after : List ℕ} → Told (callBy (parse area) call area) reply after → Told (Calls.callArea call area) reply after
     unfolding Calls.callArea

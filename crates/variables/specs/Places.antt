@@ -1,13 +1,14 @@
 -- What the code answers, in terms of the scans, the stands and the pairs: offsets count from the area's first byte.
 use Prim.Native.Nat.{ℕ, zero, suc, _+_}
+use mathlib.Core.Path.{_≡_}
 use mathlib.Core.Bool.{Bool, true, false}
-use mathlib.Core.List.{List}
+use mathlib.Core.List.{List, []}
 use lib.ListN.{length}
 use Rattle.lists.specs.Bytes.{sameBytes}
 use Rattle.values.specs.Value.{decode, part}
 use Rattle.repeats.specs.declared.Repeat.{Repeat}
 use Rattle.repeats.specs.declared.Repeat.the-variants as Repeat
-use Rattle.header.specs.declared.Error.the-variants.{Repeated}
+use Rattle.header.specs.declared.Error.the-variants.{AreaEnd, StoredName, Escape, Repeated}
 use Rattle.variables.specs.declared.ScanEnd.{ScanEnd}
 use Rattle.variables.specs.declared.ScanEnd.the-variants as ScanEnd
 use Rattle.variables.specs.declared.PairAt.{PairAt}
@@ -39,10 +40,18 @@ placeOf at cut = PairAt.Cut
 placeOf at (wrongName k) = PairAt.WrongName (at + k)
 placeOf at (wrongEscape k) = PairAt.WrongEscape (at + k)
 
--- the number of pairs and the offset of the ending 0x00, or the first fault
-unfoldable pub scannedOf : Parse → Scanned
-scannedOf (parsed ps) = Scanned.Pairs (length ps) (length (pairsBytes ps))
-scannedOf (faulty e) = Scanned.Refused e
+-- the number of pairs, the offset of the ending 0x00 and the place that was sought, or the first fault
+unfoldable pub scannedOf : Parse → Place → Scanned
+scannedOf (parsed ps) place = Scanned.Pairs (length ps) (length (pairsBytes ps)) place
+scannedOf (faulty e) place = Scanned.Refused e
+
+-- what ends the pairs of an area of so many bytes, where count of them stand before at; a pair does not come here
+unfoldable pub closedOf : PairAt → ℕ → ℕ → ℕ → Place → Scanned
+closedOf (PairAt.Pair q e) long count at place = Scanned.Refused (AreaEnd long)
+closedOf PairAt.End long count at place = Scanned.Pairs count at place
+closedOf PairAt.Cut long count at place = Scanned.Refused (AreaEnd long)
+closedOf (PairAt.WrongName k) long count at place = Scanned.Refused (StoredName k)
+closedOf (PairAt.WrongEscape k) long count at place = Scanned.Refused (Escape k)
 
 -- a repeat among the complete pairs goes before what stands after them
 unfoldable pub orRepeat : Repeat → Scanned → Scanned
@@ -71,14 +80,24 @@ findFrom (suc n) name at rest = onFind (standAt rest) name at (λ a r. findFrom 
 unfoldable pub findAt : List ℕ → List ℕ → Place
 findAt area name = findFrom (suc (length area)) name 0 area
 
+-- the first place, or else the second
+unfoldable pub firstPlace : Place → Place → Place
+firstPlace (Place.At start equals end) other = Place.At start equals end
+firstPlace Place.None other = other
+
+-- a place that was sought by some name
+pub record Sought (area : List ℕ) (place : Place) : Type 0 where
+  pub name : List ℕ
+  pub is : place ≡ findAt area name
+
 -- the value of the pair at a place
 unfoldable pub valueAt : List ℕ → Place → Lookup
 valueAt area (Place.At start equals end) = found (decode (part area (equals + 1) end))
 valueAt area Place.None = missing
 
--- a read in an area without a fault
-unfoldable pub pairRead : List ℕ → List ℕ → List ℕ → Outcome
-pairRead name buffer area = readBy (valueAt area (findAt area name)) name buffer area
+-- a read of the pair at a place of an area without a fault; no refusal tells the name
+unfoldable pub pairRead : Place → List ℕ → List ℕ → Outcome
+pairRead place buffer area = readBy (valueAt area place) [] buffer area
 
 -- the number of variables, as a reply
 unfoldable pub countReply : Counted → Reply

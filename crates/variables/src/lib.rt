@@ -14,7 +14,7 @@ ghost use Rattle.repeats.specs.Pieces.{firstRepeat};
 ghost use Rattle.variables.specs.Scan.{scanName, scanValue, standAt};
 ghost use Rattle.variables.specs.Area.{pairBytes, parse};
 ghost use Rattle.variables.specs.Edits.{canonicalPair};
-ghost use Rattle.variables.specs.Places.{endOf, placeOf, orRepeat, scannedOf, findAt, pairRead, countReply, readReply};
+ghost use Rattle.variables.specs.Places.{endOf, placeOf, orRepeat, scannedOf, closedOf, firstPlace, findAt, Sought, pairRead, countReply, readReply};
 ghost use Rattle.variables.specs.EditPlaces.{editReply, Used, tailShifted, replaceReply, replaceArea, PairMoves, pairRecoded, Parses, normalizedBytes};
 ghost use Rattle.variables.specs.Calls as Calls;
 
@@ -48,9 +48,13 @@ enum PairAt {
     WrongEscape(usize),
 }
 
-// The whole area: the number of its pairs and the offset of the ending 0x00, or its first fault.
+// The whole area: the number of its pairs, the offset of the ending 0x00 and the pair that was sought, or its first fault.
 enum Scanned {
-    Pairs { count: usize, used: usize },
+    Pairs {
+        count: usize,
+        used: usize,
+        place: Place,
+    },
     Refused(Error),
 }
 
@@ -156,55 +160,49 @@ fn or_repeat(area: &[u8], at: usize, out: Scanned) -> Scanned
     }
 }
 
-// Scans the whole area: its pairs up to the ending 0x00, or its first fault.
-fn scan(area: &[u8]) -> Scanned
-    ensures { λ r. ⌜ r ≡ scannedOf (parse (now (area .entry))) ⌝ }
+// What ends the pairs, where `count` of them stand before `at`; a pair does not come here.
+fn closed(seen: PairAt, long: usize, count: usize, at: usize, place: Place) -> Scanned
+    ensures { λ r. ⌜ r ≡ closedOf seen long count at place ⌝ }
 {
-    let mut at = 0;
-    let mut count = 0;
-    loop {
-        match pair_at(area, at) {
-            PairAt::Pair { equals: _, end } => {
-                count += 1;
-                at = end + 1;
-            }
-            PairAt::End => break or_repeat(
-                area,
-                at,
-                Scanned::Pairs {
-                    count: count,
-                    used: at,
-                },
-            ),
-            PairAt::Cut => {
-                break or_repeat(
-                    area,
-                    at,
-                    Scanned::Refused(Error::AreaEnd { at: area.len() }),
-                );
-            }
-            PairAt::WrongName(k) => {
-                break or_repeat(area, at, Scanned::Refused(Error::StoredName { at: k }));
-            }
-            PairAt::WrongEscape(k) => {
-                break or_repeat(area, at, Scanned::Refused(Error::Escape { at: k }));
-            }
-        }
+    match seen {
+        PairAt::Pair { equals: _, end: _ } => Scanned::Refused(Error::AreaEnd { at: long }),
+        PairAt::End => Scanned::Pairs {
+            count: count,
+            used: at,
+            place: place,
+        },
+        PairAt::Cut => Scanned::Refused(Error::AreaEnd { at: long }),
+        PairAt::WrongName(k) => Scanned::Refused(Error::StoredName { at: k }),
+        PairAt::WrongEscape(k) => Scanned::Refused(Error::Escape { at: k }),
     }
 }
 
-// Finds the first pair of that name.
-fn find(area: &[u8], name: &[u8]) -> Place
-    ensures { λ r. ⌜ r ≡ findAt (now (area .entry)) (now (name .entry)) ⌝ }
+// The first place, or else the second.
+fn first_place(place: Place, other: Place) -> Place
+    ensures { λ r. ⌜ r ≡ firstPlace place other ⌝ }
+{
+    match place {
+        Place::At { start, equals, end } => Place::At { start, equals, end },
+        Place::None => other,
+    }
+}
+
+// Scans the whole area once: its pairs up to the ending 0x00 with the first pair of that name, or its first fault.
+fn scan(area: &[u8], name: &[u8]) -> Scanned
+    ensures { λ r. ⌜ r ≡ scannedOf (parse (now (area .entry))) (findAt (now (area .entry)) (now (name .entry))) ⌝ }
 {
     let mut at = 0;
+    let mut count = 0;
+    let mut place = Place::None;
     'pairs: loop {
         let seen = pair_at(area, at);
         let PairAt::Pair { equals, end } = seen else {
-            break 'pairs Place::None;
+            let out = closed(seen, area.len(), count, at, place);
+            break 'pairs or_repeat(area, at, out);
         };
         let start = at;
         at = end + 1;
+        count += 1;
         if equals - start != name.len() {
             continue 'pairs;
         }
@@ -215,20 +213,17 @@ fn find(area: &[u8], name: &[u8]) -> Place
             }
             k += 1;
         }
-        break 'pairs Place::At {
-            start: start,
-            equals: equals,
-            end: end,
-        };
+        place = first_place(place, Place::At { start, equals, end });
     }
 }
 
-// Decodes the value of the first pair of that name into the buffer.
-fn read_pair(area: &[u8], name: &[u8], buffer: &mut [u8]) -> ReadAnswer
-    ensures { λ r. ⌜ readReply r ≡ pairRead (now (name .entry)) (now (buffer .entry)) (now (area .entry)) .reply ⌝ }
-    ensures { λ _. ⌜ now (buffer .exit) ≡ pairRead (now (name .entry)) (now (buffer .entry)) (now (area .entry)) .buffer ⌝ }
+// Decodes the value of the pair at a place into the buffer.
+fn read_pair(area: &[u8], place: Place, buffer: &mut [u8]) -> ReadAnswer
+    requires { ⌜ Sought (now area) place ⌝ }
+    ensures { λ r. ⌜ readReply r ≡ pairRead place (now (buffer .entry)) (now (area .entry)) .reply ⌝ }
+    ensures { λ _. ⌜ now (buffer .exit) ≡ pairRead place (now (buffer .entry)) (now (area .entry)) .buffer ⌝ }
 {
-    match find(area, name) {
+    match place {
         Place::None => ReadAnswer::Refused(Error::NoVariable),
         Place::At {
             start: _,
@@ -248,8 +243,12 @@ fn read_pair(area: &[u8], name: &[u8], buffer: &mut [u8]) -> ReadAnswer
 pub fn count(area: &[u8]) -> Counted
     ensures { λ r. ⌜ countReply r ≡ Calls.callArea Calls.count (now (area .entry)) .reply ⌝ }
 {
-    match scan(area) {
-        Scanned::Pairs { count: n, used: _ } => Counted::Variables(n),
+    match scan(area, b"") {
+        Scanned::Pairs {
+            count: n,
+            used: _,
+            place: _,
+        } => Counted::Variables(n),
         Scanned::Refused(e) => Counted::Refused(e),
     }
 }
@@ -261,9 +260,13 @@ pub fn read(area: &[u8], name: &[u8], buffer: &mut [u8]) -> ReadAnswer
 {
     match names::check(name) {
         NameCheck::Wrong { at: _ } => ReadAnswer::Refused(Error::BadName),
-        NameCheck::Good => match scan(area) {
+        NameCheck::Good => match scan(area, name) {
             Scanned::Refused(e) => ReadAnswer::Refused(e),
-            Scanned::Pairs { count: _, used: _ } => read_pair(area, name, buffer),
+            Scanned::Pairs {
+                count: _,
+                used: _,
+                place,
+            } => read_pair(area, place, buffer),
         },
     }
 }
@@ -336,13 +339,13 @@ fn replace(
     Edited::Done
 }
 
-// Sets a variable in an area without a fault, whose pairs end at `used`.
-fn set_pair(area: &mut [u8], name: &[u8], value: &[u8], used: usize) -> Edited
-    requires { ⌜ Used (now area) used ⌝ }
+// Sets a variable in an area without a fault, whose pairs end at `used`; its pair stands at the place.
+fn set_pair(area: &mut [u8], name: &[u8], value: &[u8], used: usize, place: Place) -> Edited
+    requires { ⌜ Used (now area) used × (place ≡ findAt (now area) (now name)) ⌝ }
     ensures { λ r. ⌜ editReply r ≡ Calls.callBy (parse (now (area .entry))) (Calls.set (now (name .entry)) (now (value .entry))) (now (area .entry)) .reply ⌝ }
     ensures { λ _. ⌜ now (area .exit) ≡ Calls.callBy (parse (now (area .entry))) (Calls.set (now (name .entry)) (now (value .entry))) (now (area .entry)) .area ⌝ }
 {
-    match find(area, name) {
+    match place {
         Place::At {
             start,
             equals: _,
@@ -359,20 +362,24 @@ pub fn set(area: &mut [u8], name: &[u8], value: &[u8]) -> Edited
 {
     match names::check(name) {
         NameCheck::Wrong { at: _ } => Edited::Refused(Error::BadName),
-        NameCheck::Good => match scan(area) {
+        NameCheck::Good => match scan(area, name) {
             Scanned::Refused(e) => Edited::Refused(e),
-            Scanned::Pairs { count: _, used } => set_pair(area, name, value, used),
+            Scanned::Pairs {
+                count: _,
+                used,
+                place,
+            } => set_pair(area, name, value, used, place),
         },
     }
 }
 
-// Removes a variable from an area without a fault, whose pairs end at `used`.
-fn remove_pair(area: &mut [u8], name: &[u8], used: usize) -> Edited
-    requires { ⌜ Used (now area) used ⌝ }
+// Removes the variable at a place from an area without a fault, whose pairs end at `used`.
+fn remove_pair(area: &mut [u8], name: &[u8], used: usize, place: Place) -> Edited
+    requires { ⌜ Used (now area) used × (place ≡ findAt (now area) (now name)) ⌝ }
     ensures { λ r. ⌜ editReply r ≡ Calls.callBy (parse (now (area .entry))) (Calls.remove (now (name .entry))) (now (area .entry)) .reply ⌝ }
     ensures { λ _. ⌜ now (area .exit) ≡ Calls.callBy (parse (now (area .entry))) (Calls.remove (now (name .entry))) (now (area .entry)) .area ⌝ }
 {
-    match find(area, name) {
+    match place {
         Place::At {
             start,
             equals: _,
@@ -392,9 +399,13 @@ pub fn remove(area: &mut [u8], name: &[u8]) -> Edited
 {
     match names::check(name) {
         NameCheck::Wrong { at: _ } => Edited::Refused(Error::BadName),
-        NameCheck::Good => match scan(area) {
+        NameCheck::Good => match scan(area, name) {
             Scanned::Refused(e) => Edited::Refused(e),
-            Scanned::Pairs { count: _, used } => remove_pair(area, name, used),
+            Scanned::Pairs {
+                count: _,
+                used,
+                place,
+            } => remove_pair(area, name, used, place),
         },
     }
 }
@@ -442,8 +453,12 @@ pub fn normalize(area: &mut [u8]) -> Edited
     ensures { λ r. ⌜ editReply r ≡ Calls.callArea Calls.normalize (now (area .entry)) .reply ⌝ }
     ensures { λ _. ⌜ now (area .exit) ≡ Calls.callArea Calls.normalize (now (area .entry)) .area ⌝ }
 {
-    match scan(area) {
-        Scanned::Pairs { count: _, used: _ } => {
+    match scan(area, b"") {
+        Scanned::Pairs {
+            count: _,
+            used: _,
+            place: _,
+        } => {
             let past = normalize_pairs(area);
             lists::fill(&mut area[past..], 0);
             Edited::Done

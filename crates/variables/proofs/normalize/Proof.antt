@@ -7,6 +7,9 @@ use borrow.Author.Needs.{needs}
 use Rattle.variables.proofs.normalize.Statement.{statement}
 use Rattle.variables.proofs.normalize.Tie as tie
 
+slice-aggregate-scan : tie.Need-slice-aggregate-scan
+slice-aggregate-scan c = search needs
+
 scan-requires : tie.Need-scan-requires
 scan-requires c κs = search needs
 
@@ -16,7 +19,7 @@ enum-told c = search needs
 normalize-pairs-requires : tie.Need-normalize-pairs-requires
 normalize-pairs-requires c κs =
     let t = c .before in
-    scan-parses (now (t .before .before .before .before .before .args .area)) (t .enum-told .given .0 .0) (t .enum-told .given .0 .1 .0) (sym (t .enum-told .given .1) ∙ t .before .before .scan .ensures)
+    scan-parses (now (t .before .before .before .before .before .before .args .area)) _ (t .enum-told .given .0 .0) (t .enum-told .given .0 .1 .0) (t .enum-told .given .0 .1 .1 .0) (sym (t .enum-told .given .1) ∙ t .before .before .scan .ensures)
 
 sub-fill : tie.Need-sub-fill
 sub-fill c = search needs
@@ -42,7 +45,7 @@ returns c =
     let f = c .before .before in
     let n = f .before .before .before .before in
     let t = n .before .before in
-    normalize-done (scan-parses (now (t .before .before .before .before .before .args .area)) (t .enum-told .given .0 .0) (t .enum-told .given .0 .1 .0) (sym (t .enum-told .given .1) ∙ t .before .before .scan .ensures))
+    normalize-done (scan-parses (now (t .before .before .before .before .before .before .args .area)) _ (t .enum-told .given .0 .0) (t .enum-told .given .0 .1 .0) (t .enum-told .given .0 .1 .1 .0) (sym (t .enum-told .given .1) ∙ t .before .before .scan .ensures))
     (n .normalize-pairs .result) (n .normalize-pairs .ensures .0) (n .normalize-pairs .ensures .1 .0) (n .normalize-pairs .last .0) (n .normalize-pairs .ensures .1 .1)
     (f .fill .last .0) (f .fill .ensures)
 
@@ -53,12 +56,13 @@ returns-2 : tie.Need-returns-2
 unfolding editReply
 returns-2 c =
     let s = c .before .before .before in
-    normalize-refused (now (s .before .before .before .args .area)) (c .before .e .given .0 .0) (sym (c .before .e .given .1) ∙ s .scan .ensures)
+    normalize-refused (now (s .before .before .before .before .args .area)) _ (c .before .e .given .0 .0) (sym (c .before .e .given .1) ∙ s .scan .ensures)
 
 pub normalize-spec : {M : Type 1} → statement M
 normalize-spec =
     tie.close
     (tie.spec
+    slice-aggregate-scan
     scan-requires
     enum-told
     normalize-pairs-requires

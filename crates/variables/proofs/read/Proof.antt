@@ -3,7 +3,7 @@ use mathlib.Core.Path.{_≡_, sym, _∙_}
 use Rattle.names.specs.declared.NameCheck.the-variants.{Good}
 use Rattle.names.specs.Name.{nameCheck}
 use Rattle.variables.specs.Places.{readReply}
-use Rattle.variables.proofs.CallPlaces.{reads-as, read-misnamed, read-refused, read-pairs}
+use Rattle.variables.proofs.CallPlaces.{reads-as, read-misnamed, read-refused, read-pairs, place-sought}
 use borrow.Author.Needs.{needs}
 use Rattle.variables.proofs.read.Statement.{statement}
 use Rattle.variables.proofs.read.Tie as tie
@@ -27,11 +27,14 @@ scan-requires c κs = search needs
 enum-known-e : tie.Need-enum-known-e
 enum-known-e c = search needs
 
-enum-told-3 : tie.Need-enum-told-3
-enum-told-3 c = search needs
+enum-known-place : tie.Need-enum-known-place
+enum-known-place c = search needs
 
 read-pair-requires : tie.Need-read-pair-requires
-read-pair-requires c κs = search needs
+read-pair-requires c κs =
+    let p = c .before .before in
+    let g = p .place .given in
+    place-sought _ _ (g .0 .0) (g .0 .1 .0) (g .0 .1 .1 .0) (sym (g .1) ∙ p .before .before .scan .ensures)
 
 returns : tie.Need-returns
 unfolding readReply
@@ -42,7 +45,7 @@ returns c =
 returns-2 : tie.Need-returns-2
 unfolding readReply
 returns-2 c =
-    let r = read-refused _ (c .before .before .before .before .before .before .before .before .before .before .args .buffer .now) _ (good (c .before .before .before .before)) _ (sym (c .before .e .given .1) ∙ c .before .before .before .scan .ensures) in
+    let r = read-refused _ (c .before .before .before .before .before .before .before .before .before .before .args .buffer .now) _ (good (c .before .before .before .before)) _ _ (sym (c .before .e .given .1) ∙ c .before .before .before .scan .ensures) in
     (r .replied, r .left)
 
 same-length : tie.Need-same-length
@@ -50,9 +53,12 @@ same-length c = search needs
 
 returns-3 : tie.Need-returns-3
 returns-3 c =
-    let p = c .before .before .read-pair .ensures in
-    let e = read-pairs _ (c .before .before .before .before .before .before .before .before .before .before .before .before .before .args .buffer .now) _ (good (c .before .before .before .before .before .before .before)) _ _ (sym (c .before .before .before .before .enum-told3 .given .1) ∙ c .before .before .before .before .before .before .scan .ensures) in
-    let r = reads-as e (record { replied = p .0; left = p .1 }) in
+    let q = c .before .before in
+    let p = q .before .before .before in
+    let g = p .place .given in
+    let s = p .before .before in
+    let e = read-pairs _ (s .before .before .before .before .before .before .before .args .buffer .now) _ (good (s .before)) (g .0 .0) (g .0 .1 .0) (g .0 .1 .1 .0) (sym (g .1) ∙ s .scan .ensures) in
+    let r = reads-as e (record { replied = q .read-pair .ensures .0; left = q .read-pair .ensures .1 }) in
     (r .replied, r .left)
 
 pub read-spec : {M : Type 1} → statement M
@@ -64,7 +70,7 @@ read-spec =
     enum-told-2
     scan-requires
     enum-known-e
-    enum-told-3
+    enum-known-place
     read-pair-requires
     returns
     returns-2

@@ -30,7 +30,7 @@ set-pair-requires : tie.Need-set-pair-requires
 set-pair-requires c κs =
     let g = c .before .before .used .given in
     let s = c .before .before .before .before in
-    scan-used _ (g .0 .0) (g .0 .1 .0) (sym (g .1) ∙ s .scan .ensures)
+    scan-used _ _ (g .0 .0) (g .0 .1 .0) (g .0 .1 .1 .0) (sym (g .1) ∙ s .scan .ensures)
 
 returns : tie.Need-returns
 unfolding editReply wellNamed
@@ -50,7 +50,7 @@ returns-2 c =
     let t = s .before .before in
     let k = t .before .before in
     let a = k .before .before .before .before .args in
-    edit-faulty (Calls.set (now (a .name)) (now (a .value))) (now (a .name)) refl (now (a .area)) (sym (t .enum-told2 .given .1) ∙ k .check .ensures) (g .0 .0) (sym (g .1) ∙ s .scan .ensures)
+    edit-faulty (Calls.set (now (a .name)) (now (a .value))) (now (a .name)) refl (now (a .area)) (sym (t .enum-told2 .given .1) ∙ k .check .ensures) _ (g .0 .0) (sym (g .1) ∙ s .scan .ensures)
 
 same-length-2 : tie.Need-same-length-2
 same-length-2 c = search needs

@@ -1,4 +1,4 @@
-use mathlib.Core.Path.{_≡_, sym, ap, _∙_}
+use mathlib.Core.Path.{_≡_, sym, _∙_}
 use native.Mathlib.Omega.{arith}
 use denote.Ref.{now}
 use Rattle.variables.proofs.ReplaceLaws.{found-bounds, set-found, set-added, used-inside}
@@ -6,37 +6,29 @@ use borrow.Author.Needs.{needs}
 use Rattle.variables.proofs.set_pair.Statement.{statement}
 use Rattle.variables.proofs.set_pair.Tie as tie
 
-find-requires : tie.Need-find-requires
-find-requires c κs = search needs
-
-enum-known-start : tie.Need-enum-known-start
-enum-known-start c = search needs
+enum-known-place : tie.Need-enum-known-place
+enum-known-place c = search needs
 
 add-replace : tie.Need-add-replace
 add-replace c =
     let k = c .before in
-    let f = k .before .before .before in
-    let g = k .before .start .given in
-    let s = f .before .before .before .before .before in
-    omega (arith, found-bounds (now (s .args .area)) (s .args .used) (s .pre) (now (s .args .name)) (g .0 .0) (g .0 .1 .0) (g .0 .1 .1 .0) (sym (g .1) ∙ f .find .ensures))
+    let g = k .before .place .given in
+    let s = k .before .before .before .before .before .before in
+    omega (arith, found-bounds (now (s .args .area)) (s .args .used) (s .pre .0) (now (s .args .name)) (g .0 .0) (g .0 .1 .0) (g .0 .1 .1 .0) (sym (g .1) ∙ s .pre .1))
 
 replace-requires : tie.Need-replace-requires
 replace-requires c κs =
     let k = c .before in
-    let f = k .before .before .before in
-    let g = k .before .start .given in
-    let s = f .before .before .before .before .before in
-    let b = found-bounds (now (s .args .area)) (s .args .used) (s .pre) (now (s .args .name)) (g .0 .0) (g .0 .1 .0) (g .0 .1 .1 .0) (sym (g .1) ∙ f .find .ensures) in
+    let g = k .before .place .given in
+    let s = k .before .before .before .before .before .before in
+    let b = found-bounds (now (s .args .area)) (s .args .used) (s .pre .0) (now (s .args .name)) (g .0 .0) (g .0 .1 .0) (g .0 .1 .1 .0) (sym (g .1) ∙ s .pre .1) in
     (b .0, b .1, b .2)
 
 enum-told : tie.Need-enum-told
 enum-told c = search needs
 
 replace-requires-2 : tie.Need-replace-requires-2
-replace-requires-2 c κs =
-    let f = c .before .before .before in
-    let s = f .before .before .before .before .before in
-    (omega arith, omega arith, used-inside (s .pre))
+replace-requires-2 c κs = (omega arith, omega arith, used-inside (c .before .before .before .before .before .before .pre .0))
 
 same-length : tie.Need-same-length
 same-length c = search needs
@@ -45,10 +37,9 @@ returns : tie.Need-returns
 returns c =
     let r = c .before .before in
     let k = r .before .before in
-    let f = k .before .before .before in
-    let g = k .before .start .given in
-    let s = f .before .before .before .before .before in
-    let h = set-found (now (s .args .area)) (s .args .used) (s .pre) (now (s .args .name)) (g .0 .0) (g .0 .1 .0) (g .0 .1 .1 .0) (sym (g .1) ∙ f .find .ensures) (now (s .args .value)) in
+    let g = k .before .place .given in
+    let s = k .before .before .before .before .before .before in
+    let h = set-found (now (s .args .area)) (s .args .used) (s .pre .0) (now (s .args .name)) (g .0 .0) (g .0 .1 .0) (g .0 .1 .1 .0) (sym (g .1) ∙ s .pre .1) (now (s .args .value)) in
     (r .replace .ensures .0 ∙ h .0, r .replace .ensures .1 ∙ h .1)
 
 same-length-2 : tie.Need-same-length-2
@@ -58,17 +49,15 @@ returns-2 : tie.Need-returns-2
 returns-2 c =
     let r = c .before .before in
     let k = r .before .before in
-    let f = k .before .before in
-    let s = f .before .before .before .before .before in
-    let h = set-added (now (s .args .area)) (s .args .used) (s .pre) (now (s .args .name)) (sym (k .enum-told .given .1) ∙ f .find .ensures) (now (s .args .value)) in
+    let s = k .before .before .before .before .before in
+    let h = set-added (now (s .args .area)) (s .args .used) (s .pre .0) (now (s .args .name)) (sym (k .enum-told .given .1) ∙ s .pre .1) (now (s .args .value)) in
     (r .replace2 .ensures .0 ∙ h .0, r .replace2 .ensures .1 ∙ h .1)
 
 pub set-pair-spec : {M : Type 1} → statement M
 set-pair-spec =
     tie.close
     (tie.spec
-    find-requires
-    enum-known-start
+    enum-known-place
     add-replace
     replace-requires
     enum-told
