@@ -4,7 +4,8 @@ CARD ?= samples/slof-64k.img
 help:
 	@echo 'make list [CARD=path]   build the proved nvlist and list a card (default: $(CARD))'
 	@echo 'make test               prove every crate, try the must-fail edits, run every program and case'
-	@echo 'make bench              time nvlist on the sample cards'
+	@echo 'make lib                prove and write target/staticlib/libnvram_c.a, for C, C++ and Rust to link'
+	@echo 'make bench              time every call beside a plain Rust implementation (needs cargo and cc)'
 	@echo 'make fmt                lay out every source, definition and proof'
 
 list: target/bin/nvlist
@@ -14,13 +15,20 @@ list: target/bin/nvlist
 test:
 	@tests/run
 
-bench: target/bin/nvlist
-	@tests/bench
+lib: target/staticlib/libnvram_c.a
+
+bench: target/staticlib/libnvram_c.a
+	@tests/bench/run
 
 fmt:
 	@rt fmt
 
-target/bin/nvlist: $(shell find crates -type f 2>/dev/null)
-	@tests/build nvlist
+sources := $(shell find crates -type f 2>/dev/null)
 
-.PHONY: help list test bench fmt
+target/bin/nvlist: $(sources)
+	@tests/build check nvlist
+
+target/staticlib/libnvram_c.a: $(sources)
+	@tests/build staticlib nvram_c
+
+.PHONY: help list test lib bench fmt
