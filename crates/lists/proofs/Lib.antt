@@ -4,3 +4,4 @@ pub mod ByteLaws
 pub mod PastedLaws
 pub mod Grown
 pub mod MoveLaws
+pub mod FindLaws

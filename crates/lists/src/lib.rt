@@ -1,8 +1,10 @@
-// Laws of lists of bytes, and the copies, moves and fills that use them.
+// Laws of lists of bytes, and the copies, moves, fills and searches that use them.
 ghost use mathlib.Core.Path.{_≡_};
 ghost use Prim.Native.Nat.{_+_, _≤_};
 ghost use lib.ListN.{length, take, drop, replicate};
+ghost use lib.Dec.{ltb};
 ghost use Rattle.lists.specs.Pasted.{pasted, movedBytes};
+ghost use Rattle.lists.specs.Find.{untilEither};
 
 // Copies bytes to the start of `to`, as many as both slices have.
 pub fn copy(from: &[u8], to: &mut [u8])
@@ -73,4 +75,54 @@ pub fn move_bytes(s: &mut [u8], from: usize, to: usize, n: usize)
     } else {
         move_up(s, from, to, n);
     }
+}
+
+// Whether one of the 16 bytes at `at` is b or c: all are looked at, so that they are compared at once.
+fn chunk_has(s: &[u8], at: usize, b: u8, c: u8) -> bool
+    requires { ⌜ at + 16 ≤ length (now s) ⌝ }
+    ensures { λ r. ⌜ r ≡ ltb (untilEither b c (drop at (now (s .entry)))) 16 ⌝ }
+{
+    let mut hit = false;
+    let mut k = 0;
+    while k < 16 {
+        let x = s[at + k];
+        hit = hit | (x == b) | (x == c);
+        k += 1;
+    }
+    hit
+}
+
+// An offset from `from` on with neither b nor c before it, and less than 16 bytes or one of the two in the 16 bytes there.
+fn skip_chunks(s: &[u8], from: usize, b: u8, c: u8) -> usize
+    ensures { λ r. ⌜ from + untilEither b c (drop from (now (s .entry))) ≡ r + untilEither b c (drop r (now (s .entry))) ⌝ }
+{
+    let mut at = from;
+    while at < s.len() {
+        if s.len() - at < 16 {
+            return at;
+        }
+        if chunk_has(s, at, b, c) {
+            return at;
+        }
+        at += 16;
+    }
+    at
+}
+
+// The offset of the first byte from `from` on that is b or c, or the end.
+pub fn find_either(s: &[u8], from: usize, b: u8, c: u8) -> usize
+    ensures { λ r. ⌜ r ≡ from + untilEither b c (drop from (now (s .entry))) ⌝ }
+{
+    let mut e = skip_chunks(s, from, b, c);
+    while e < s.len() {
+        let x = s[e];
+        if x == b {
+            return e;
+        }
+        if x == c {
+            return e;
+        }
+        e += 1;
+    }
+    e
 }
