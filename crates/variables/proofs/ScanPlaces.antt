@@ -1,16 +1,19 @@
 -- Laws of the place where a scan ends: the code's turns, byte by byte, and the pieces that a scan takes off.
-use Prim.Native.Nat.{ℕ, suc, _+_, _-_, _%_, _<_, _≤_}
-use mathlib.Core.Path.{_≡_, refl, sym, ap, _∙_}
+use Prim.Native.Nat.{ℕ, zero, suc, _+_, _-_, _%_, _<_, _≤_}
+use mathlib.Core.Path.{_≡_, refl, sym, ap, subst, _∙_}
 use mathlib.Core.Bool.{Bool, true, false, _||_, and-false}
 use mathlib.Core.List.{List}
+use mathlib.Core.Logic.{⊎-elim}
 use native.Mathlib.Nat.{sub-self}
 use native.Mathlib.Omega.{arith}
 use lib.Dec.{eqb}
-use lib.ListN.{length, getD, drop, drop-of-length-le}
+use lib.ListN.{length, getD, drop, length-drop, drop-of-length-le}
 use borrow.Author.Tests.{lt-ltb, le-ltb, eq-eqb, ne-eqb, eqb-false}
 use Rattle.lists.proofs.Tests.{split}
 use Rattle.names.specs.Name.{nameByte}
 use Rattle.lists.proofs.ListLaws.{drop-next}
+use Rattle.lists.specs.Find.{untilEither}
+use Rattle.lists.proofs.FindLaws.{until-short, either-ahead, either-there, either-before}
 use Rattle.variables.specs.declared.ScanEnd.the-variants.{At, Wrong, Cut}
 use Rattle.variables.specs.Scan.{Scan, ends, bad, short, and, scanName, scanValue}
 use Rattle.variables.specs.Places.{endOf}
@@ -112,6 +115,23 @@ module _ {area : List ℕ} {from i : ℕ} (s : ValueScan area from false i) (h :
 
   pub value-escape : getD area i 0 ≡ 255 → ValueScan area from true (i + 1)
   value-escape e = value-step (λ z. omega arith) true (eq-eqb (getD area i 0) 255 e)
+
+-- bytes that are neither 0x00 nor 0xFF are taken at once
+pub value-skip : {area : List ℕ} {from i : ℕ} → ValueScan area from false i → (r : ℕ) → r ≡ i + untilEither 0 255 (drop i area) → ValueScan area from false r
+value-skip {area} {from} {i} s r e = go (r - i) i s (omega (arith, either-ahead area i 0 255 e)) (omega arith)
+  where
+    go : (n j : ℕ) → ValueScan area from false j → j + n ≡ r → i ≤ j → ValueScan area from false r
+    go zero j t q l = let h : j ≡ r = omega arith in subst (λ (m : ℕ). ValueScan area from false m) h t
+    go (suc n) j t q l =
+        let p = either-before area i 0 255 e j l (omega arith) in
+        let k : j < length area = omega (arith, e, until-short 0 255 (drop i area), length-drop i area) in
+        go n (j + 1) (value-next t k (p .0) (p .1)) (omega arith) (omega arith)
+
+-- the byte there, where it is not 0x00, begins an escape
+pub value-mark : {area : List ℕ} {from i : ℕ} → ValueScan area from false i → (r : ℕ) → r ≡ i + untilEither 0 255 (drop i area) → r < length area
+    → (getD area r 0 ≡ 0 → ⊥) → ValueScan area from true (r + 1)
+value-mark {area} {from} {i} s r e h n =
+    value-escape (value-skip s r e) h (⊎-elim (λ z. absurd (n z)) (λ z. z) (either-there area i 0 255 e h))
 
 -- an escape's second byte
 zero-run : (c : ℕ) → c < 256 → c % 128 ≡ 0 → (eqb c 0 || eqb c 128) ≡ true

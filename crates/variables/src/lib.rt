@@ -109,23 +109,23 @@ fn scan_value(area: &[u8], from: usize) -> ScanEnd
     ensures { λ r. ⌜ r ≡ endOf from from (scanValue false 0 (drop from (now (area .entry)))) ⌝ }
 {
     let mut i = from;
-    while i < area.len() {
-        let b = area[i];
-        if b == 0 {
-            return ScanEnd::At(i);
+    loop {
+        i = lists::find_either(area, i, 0, 255);
+        if area.len() <= i {
+            break ScanEnd::Cut;
+        }
+        if area[i] == 0 {
+            break ScanEnd::At(i);
         }
         i += 1;
-        if b == 255 {
-            if area.len() <= i {
-                return ScanEnd::Cut;
-            }
-            if area[i] % 128 == 0 {
-                return ScanEnd::Wrong(i);
-            }
-            i += 1;
+        if area.len() <= i {
+            break ScanEnd::Cut;
         }
+        if area[i] % 128 == 0 {
+            break ScanEnd::Wrong(i);
+        }
+        i += 1;
     }
-    ScanEnd::Cut
 }
 
 // What stands at an offset where a pair or the end should begin.

@@ -1,10 +1,10 @@
 -- `variables::scan_value` meets its contract. The invariant: what is left of the scan gives its end.
 use Prim.Native.Nat.{_+_, _-_}
-use mathlib.Core.Bool.{false}
+use mathlib.Core.Bool.{true, false}
 use native.Mathlib.Omega.{arith}
 use lib.ListN.{length}
 use borrow.Author.Needs.{needs}
-use Rattle.variables.proofs.ScanPlaces.{ValueScan, value-begun, value-cut, value-ends, value-next, value-escape, escape-wrong, escape-next}
+use Rattle.variables.proofs.ScanPlaces.{ValueScan, value-begun, value-cut, value-ends, value-skip, value-mark, escape-wrong, escape-next}
 use Rattle.variables.proofs.scan_value.Statement.{statement}
 use Rattle.variables.proofs.scan_value.Tie as tie
 
@@ -14,48 +14,51 @@ Inv-loop area from i₀ i = ValueScan area from false i
 abbrev μ-loop : tie.MeasureT-loop
 μ-loop area from i₀ i = length area - i
 
+-- the scan goes on at the first 0x00 or 0xFF
+skipped : (s : tie.After-find-either Inv-loop μ-loop) → ValueScan (s .before .before .before .args .area .now) (s .before .before .before .args .from) false (s .find-either .result)
+skipped s = value-skip (s .before .loop .inv) _ (s .find-either .ensures)
+
+-- past the first byte of an escape
+marked : (s : tie.Else2 Inv-loop μ-loop) → ValueScan (s .before .before .before .before .before .before .args .area .now) (s .before .before .before .before .before .before .args .from) true (s .before .before .before .find-either .result + 1)
+marked s =
+    let f = s .before .before .before in
+    value-mark (f .before .loop .inv) _ (f .find-either .ensures) (s .before .before .if1 .left) (s .if2 .left)
+
 loop-holds : tie.Need-loop-holds Inv-loop μ-loop
 loop-holds c = value-begun _ _
 
-shared-slice-read-b : tie.Need-shared-slice-read-b Inv-loop μ-loop
-shared-slice-read-b c = search needs
+find-either-requires : tie.Need-find-either-requires Inv-loop μ-loop
+find-either-requires c κs = search needs
 
-returns : tie.Need-returns Inv-loop μ-loop
-returns c = value-ends (c .before .before .before .loop .inv) (search needs) (c .if1 .taken)
+shared-slice-read-if2 : tie.Need-shared-slice-read-if2 Inv-loop μ-loop
+shared-slice-read-if2 c = search needs
 
 add-i : tie.Need-add-i Inv-loop μ-loop
 add-i c = search needs
 
-returns-2 : tie.Need-returns-2 Inv-loop μ-loop
-returns-2 c = value-cut (value-escape (c .before .before .before .before .before .loop .inv) (search needs) (c .before .if2 .taken)) (search needs)
-
 shared-slice-read-if4 : tie.Need-shared-slice-read-if4 Inv-loop μ-loop
 shared-slice-read-if4 c = search needs
-
-returns-3 : tie.Need-returns-3 Inv-loop μ-loop
-returns-3 c =
-    let l = c .before .before .before .before .before .before .before .loop in
-    escape-wrong (value-escape (l .inv) (search needs) (c .before .before .before .if2 .taken)) (search needs) (omega (arith, c .before .shared-slice-known2 .given (l .i + 1))) (c .if4 .taken)
 
 add-i-2 : tie.Need-add-i-2 Inv-loop μ-loop
 add-i-2 c = search needs
 
 loop-less : tie.Need-loop-less Inv-loop μ-loop
-loop-less c = search needs
+loop-less c = omega (arith, c .before .before .before .before .before .before .find-either .ensures)
 
 loop-again : tie.Need-loop-again Inv-loop μ-loop
-loop-again c =
-    escape-next (value-escape (c .before .before .before .before .before .before .before .loop .inv) (search needs) (c .before .before .before .if2 .taken))
-    (search needs) (c .if4 .left)
+loop-again c = escape-next (marked (c .before .before .before)) (search needs) (c .if4 .left)
 
-loop-less-2 : tie.Need-loop-less-2 Inv-loop μ-loop
-loop-less-2 c = search needs
+returns : tie.Need-returns Inv-loop μ-loop
+returns c = value-cut (skipped (c .before)) (search needs)
 
-loop-again-2 : tie.Need-loop-again-2 Inv-loop μ-loop
-loop-again-2 c = value-next (c .before .before .before .before .loop .inv) (search needs) (c .before .if1 .left) (c .if2 .left)
+returns-2 : tie.Need-returns-2 Inv-loop μ-loop
+returns-2 c = value-ends (skipped (c .before .before .before)) (search needs) (c .if2 .taken)
+
+returns-3 : tie.Need-returns-3 Inv-loop μ-loop
+returns-3 c = value-cut (marked (c .before)) (search needs)
 
 returns-4 : tie.Need-returns-4 Inv-loop μ-loop
-returns-4 c = value-cut (c .before .loop .inv) (search needs)
+returns-4 c = escape-wrong (marked (c .before .before .before)) (search needs) (omega (arith, c .before .shared-slice-known3 .given (c .before .before .before .before .before .before .find-either .result + 1))) (c .if4 .taken)
 
 pub scan-value-spec : {M : Type 1} → statement M
 scan-value-spec =
@@ -64,15 +67,14 @@ scan-value-spec =
     Inv-loop
     μ-loop
     loop-holds
-    shared-slice-read-b
-    returns
+    find-either-requires
+    shared-slice-read-if2
     add-i
-    returns-2
     shared-slice-read-if4
-    returns-3
     add-i-2
     loop-less
     loop-again
-    loop-less-2
-    loop-again-2
+    returns
+    returns-2
+    returns-3
     returns-4)
