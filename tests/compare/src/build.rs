@@ -1,0 +1,219 @@
+//! Builders of images, data areas, names and values.
+
+use crate::rng::Rng;
+use reference::area;
+use reference::header::{header_bytes, padded_name};
+
+/// The signature and name of the partition with the variables.
+pub const COMMON: (u8, &[u8]) = (0x70, b"common");
+
+/// A partition to be built: signature, name, and data area of whole blocks.
+pub struct Part {
+    pub signature: u8,
+    pub name: [u8; 12],
+    pub data: Vec<u8>,
+}
+
+impl Part {
+    pub fn new(signature: u8, name: &[u8], data: Vec<u8>) -> Part {
+        Part {
+            signature,
+            name: padded_name(name).expect("a name of at most twelve bytes"),
+            data,
+        }
+    }
+
+    /// The partition of the variables with the given data area.
+    pub fn common(data: Vec<u8>) -> Part {
+        Part::new(COMMON.0, COMMON.1, data)
+    }
+
+    /// Free space with the given number of blocks.
+    pub fn free(blocks: usize) -> Part {
+        Part::new(0x7F, &[0x77; 12], vec![0; (blocks - 1) * 16])
+    }
+}
+
+/// An accepted image of the given partitions.
+pub fn image(parts: &[Part]) -> Vec<u8> {
+    let mut bytes = Vec::new();
+    for part in parts {
+        let blocks = u16::try_from(part.data.len() / 16 + 1).expect("at most 65,535 blocks");
+        bytes.extend(header_bytes(part.signature, blocks, &part.name));
+        bytes.extend_from_slice(&part.data);
+    }
+    bytes
+}
+
+/// The base image E of document 01.
+pub fn base() -> Vec<u8> {
+    image(&[Part::common(padded(b"a=1\0", 16, 0)), Part::free(1)])
+}
+
+/// Bytes followed by padding up to a length.
+pub fn padded(start: &[u8], length: usize, padding: u8) -> Vec<u8> {
+    let mut bytes = start.to_vec();
+    bytes.resize(length, padding);
+    bytes
+}
+
+/// The bytes of one pair with its value as it is to be stored.
+pub fn pair(name: &[u8], stored: &[u8]) -> Vec<u8> {
+    [name, b"=", stored, b"\0"].concat()
+}
+
+/// The bytes that may stand in a variable name.
+pub fn name_bytes() -> Vec<u8> {
+    (0..=255).filter(|&byte| area::is_name_byte(byte)).collect()
+}
+
+/// A name that follows the name rule, most often one of a few.
+pub fn good_name(rng: &mut Rng) -> Vec<u8> {
+    const FEW: [&[u8]; 8] = [b"a", b"b", b"ab", b"ba", b"boot-device", b"x~", b"!", b"a-"];
+    if !rng.once_in(4) {
+        return rng.pick(&FEW).to_vec();
+    }
+    let length = *rng.pick(&[1, 2, 3, 8, 30, 31]);
+    let allowed = name_bytes();
+    (0..length).map(|_| *rng.pick(&allowed)).collect()
+}
+
+/// A name that mostly follows the name rule.
+pub fn any_name(rng: &mut Rng) -> Vec<u8> {
+    let mut name = good_name(rng);
+    match rng.below(16) {
+        0 => name.clear(),
+        1 => name.resize(rng.between(31, 33), b'n'),
+        2 => {
+            let at = rng.below(name.len());
+            name[at] = rng.byte();
+        }
+        _ => {}
+    }
+    name
+}
+
+/// A value with many bytes 0x00 and 0xFF and some long runs.
+pub fn value(rng: &mut Rng, longest: usize) -> Vec<u8> {
+    let length = rng.below(longest + 1);
+    let mut value = Vec::with_capacity(length);
+    while value.len() < length {
+        let byte = match rng.below(6) {
+            0 | 1 => 0x00,
+            2 => 0xFF,
+            3 => *rng.pick(&[0x01, 0x7F, 0x80, 0x81, 0xFE, b'=']),
+            _ => rng.byte(),
+        };
+        let run = match rng.below(8) {
+            0 => rng.between(100, 300),
+            1 => *rng.pick(&[126, 127, 128, 254, 255]),
+            2 | 3 => rng.between(2, 8),
+            _ => 1,
+        };
+        let run = run.min(length - value.len());
+        value.resize(value.len() + run, byte);
+    }
+    value
+}
+
+/// A value of bytes that stand for themselves.
+pub fn plain_value(rng: &mut Rng, length: usize) -> Vec<u8> {
+    (0..length).map(|_| rng.between(0x01, 0xFE) as u8).collect()
+}
+
+/// Stored bytes of a value whose runs are split at random, so that they are seldom canonical.
+pub fn split_encode(rng: &mut Rng, value: &[u8]) -> Vec<u8> {
+    let mut stored = Vec::new();
+    for run in value.chunk_by(|a, b| a == b) {
+        let mark = match run[0] {
+            0x00 => 0x00,
+            0xFF => 0x80,
+            _ => {
+                stored.extend_from_slice(run);
+                continue;
+            }
+        };
+        let mut left = run.len();
+        while left > 0 {
+            let part = match rng.once_in(2) {
+                true => left.min(127),
+                false => rng.between(1, left.min(127)),
+            };
+            stored.extend([0xFF, mark | part as u8]);
+            left -= part;
+        }
+    }
+    stored
+}
+
+/// The pairs of some variables, no name twice, with split runs once in so many pairs.
+pub fn pairs(rng: &mut Rng, number: usize, longest: usize, split: usize) -> Vec<u8> {
+    let mut names: Vec<Vec<u8>> = Vec::new();
+    let mut bytes = Vec::new();
+    for _ in 0..number {
+        let name = good_name(rng);
+        if names.contains(&name) {
+            continue;
+        }
+        let value = value(rng, longest);
+        let stored = match rng.once_in(split) {
+            true => split_encode(rng, &value),
+            false => reference::value::encode(&value),
+        };
+        bytes.extend(pair(&name, &stored));
+        names.push(name);
+    }
+    bytes
+}
+
+/// A well-formed data area of the pairs, with up to the given number of spare blocks.
+pub fn area(rng: &mut Rng, pairs: &[u8], spare: usize) -> Vec<u8> {
+    let blocks = (pairs.len() + 1).div_ceil(16) + rng.below(spare + 1);
+    let mut area = padded(pairs, blocks * 16, 0);
+    if rng.once_in(2) {
+        for byte in &mut area[pairs.len() + 1..] {
+            *byte = rng.byte();
+        }
+    }
+    area
+}
+
+/// An accepted image with the data area in it, between up to two other partitions on each side.
+pub fn around(rng: &mut Rng, area: Vec<u8>) -> Vec<u8> {
+    let mut parts = Vec::new();
+    for _ in 0..rng.below(3) {
+        parts.push(other_part(rng));
+    }
+    if rng.once_in(8) {
+        parts.push(Part::free(rng.between(1, 100)));
+    }
+    parts.push(Part::common(area));
+    for _ in 0..rng.below(3) {
+        parts.push(other_part(rng));
+    }
+    image(&parts)
+}
+
+/// A small partition that is not the one with the variables.
+pub fn other_part(rng: &mut Rng) -> Part {
+    const NAMES: [&[u8]; 7] = [
+        b"",
+        b"comm",
+        b"commons",
+        b"ibm,setupcfg",
+        b"linux",
+        b"common\0x",
+        b"\x20a\x7F",
+    ];
+    let data = (0..16 * rng.below(4)).map(|_| rng.byte()).collect();
+    let name = rng.pick(&NAMES);
+    Part::new(*rng.pick(&[0x00, 0x51, 0x70, 0x7F, 0xA0, 0xFF]), name, data)
+}
+
+/// An accepted image with random variables in a small area.
+pub fn random_image(rng: &mut Rng, number: usize, longest: usize, spare: usize) -> Vec<u8> {
+    let number = rng.below(number + 1);
+    let pairs = pairs(rng, number, longest, 3);
+    let area = area(rng, &pairs, spare);
+    around(rng, area)
+}

@@ -1,0 +1,212 @@
+//! Safe calls into the verified NVRAM library.
+//!
+//! Every function takes slices, so pointers and lengths always agree and nothing overlaps.
+//! A refused call leaves the image and the buffer with the bytes they had.
+
+mod error;
+pub mod sys;
+
+pub use error::{Code, Error};
+
+use std::ops::Range;
+
+/// The bytes of a block, which are also the bytes of a header.
+const BLOCK: usize = 16;
+
+/// A partition: the offset of its header, its length in blocks, and its signature.
+#[derive(Debug, Clone, Copy, PartialEq, Eq)]
+pub struct Partition {
+    pub header: usize,
+    pub blocks: usize,
+    pub signature: u8,
+}
+
+impl Partition {
+    /// The range of the partition's data area in its image.
+    pub fn data(&self) -> Range<usize> {
+        self.header + BLOCK..self.header + self.blocks * BLOCK
+    }
+}
+
+/// Turns the answer of a C function into a result.
+fn answer<T>(code: u32, offset: usize, done: T) -> Result<T, Error> {
+    if code == 0 {
+        return Ok(done);
+    }
+    let code = Code::from_number(code).expect("the library answers codes from 0 to 14");
+    Err(Error { code, offset })
+}
+
+/// Checks a whole image and answers its number of partitions.
+///
+/// ```
+/// let mut image = [0x77; 16];
+/// image[..4].copy_from_slice(&[0x7F, 0x1A, 0x00, 0x01]);
+/// assert_eq!(nvram::check(&image), Ok(1));
+/// image[1] = 0;
+/// assert_eq!(nvram::check(&image).unwrap_err().code, nvram::Code::Checksum);
+/// ```
+pub fn check(image: &[u8]) -> Result<usize, Error> {
+    let (mut offset, mut partitions) = (0, 0);
+    // The pointers come from live borrows, with the lengths of their slices.
+    let code =
+        unsafe { sys::nvram_check(image.as_ptr(), image.len(), &mut offset, &mut partitions) };
+    answer(code, offset, partitions)
+}
+
+/// The partition with an index, counted from 0.
+pub fn partition(image: &[u8], index: usize) -> Result<Partition, Error> {
+    let (mut offset, mut header, mut blocks, mut signature) = (0, 0, 0, 0);
+    // The pointers come from live borrows, with the lengths of their slices.
+    let code = unsafe {
+        sys::nvram_partition(
+            image.as_ptr(),
+            image.len(),
+            index,
+            &mut offset,
+            &mut header,
+            &mut blocks,
+            &mut signature,
+        )
+    };
+    let found = Partition {
+        header,
+        blocks,
+        signature,
+    };
+    answer(code, offset, found)
+}
+
+/// The first partition with a signature and a name.
+///
+/// ```
+/// let mut image = [0x77; 16];
+/// image[..4].copy_from_slice(&[0x7F, 0x1A, 0x00, 0x01]);
+/// let free = nvram::find(&image, 0x7F, &[0x77; 12])?;
+/// assert_eq!((free.header, free.blocks), (0, 1));
+/// assert!(image[free.data()].is_empty());
+/// # Ok::<(), nvram::Error>(())
+/// ```
+pub fn find(image: &[u8], signature: u8, name: &[u8]) -> Result<Partition, Error> {
+    let (mut offset, mut header, mut blocks) = (0, 0, 0);
+    // The pointers come from live borrows, with the lengths of their slices.
+    let code = unsafe {
+        sys::nvram_find(
+            image.as_ptr(),
+            image.len(),
+            signature,
+            name.as_ptr(),
+            name.len(),
+            &mut offset,
+            &mut header,
+            &mut blocks,
+        )
+    };
+    let found = Partition {
+        header,
+        blocks,
+        signature,
+    };
+    answer(code, offset, found)
+}
+
+/// The number of variables.
+pub fn count(image: &[u8]) -> Result<usize, Error> {
+    let (mut offset, mut variables) = (0, 0);
+    // The pointers come from live borrows, with the lengths of their slices.
+    let code =
+        unsafe { sys::nvram_count(image.as_ptr(), image.len(), &mut offset, &mut variables) };
+    answer(code, offset, variables)
+}
+
+/// Copies a variable's value into the buffer and answers that part of the buffer.
+pub fn read<'b>(image: &[u8], name: &[u8], buffer: &'b mut [u8]) -> Result<&'b [u8], Error> {
+    let (mut offset, mut length) = (0, 0);
+    // The pointers come from live borrows, with the lengths of their slices.
+    let code = unsafe {
+        sys::nvram_read(
+            image.as_ptr(),
+            image.len(),
+            name.as_ptr(),
+            name.len(),
+            buffer.as_mut_ptr(),
+            buffer.len(),
+            &mut offset,
+            &mut length,
+        )
+    };
+    answer(code, offset, &buffer[..length])
+}
+
+/// Gives a variable a value, and adds the variable after the last one if it is new.
+///
+/// ```
+/// let mut image = *b"\x70\xFD\x00\x02common\0\0\0\0\0\0a=1\0\0\0\0\0\0\0\0\0\0\0\0\0";
+/// nvram::set(&mut image, b"b", &[0x00, 0x00, 0xFF])?;
+/// assert_eq!(&image[16..28], b"a=1\0b=\xFF\x02\xFF\x81\0\0");
+/// let mut buffer = [0; 8];
+/// assert_eq!(nvram::read(&image, b"b", &mut buffer)?, [0x00, 0x00, 0xFF]);
+/// # Ok::<(), nvram::Error>(())
+/// ```
+pub fn set(image: &mut [u8], name: &[u8], value: &[u8]) -> Result<(), Error> {
+    let mut offset = 0;
+    // The pointers come from live borrows, with the lengths of their slices.
+    let code = unsafe {
+        sys::nvram_set(
+            image.as_mut_ptr(),
+            image.len(),
+            name.as_ptr(),
+            name.len(),
+            value.as_ptr(),
+            value.len(),
+            &mut offset,
+        )
+    };
+    answer(code, offset, ())
+}
+
+/// Takes a variable out.
+pub fn remove(image: &mut [u8], name: &[u8]) -> Result<(), Error> {
+    let mut offset = 0;
+    // The pointers come from live borrows, with the lengths of their slices.
+    let code = unsafe {
+        sys::nvram_remove(
+            image.as_mut_ptr(),
+            image.len(),
+            name.as_ptr(),
+            name.len(),
+            &mut offset,
+        )
+    };
+    answer(code, offset, ())
+}
+
+/// Gives the data area of the variables its canonical form.
+pub fn normalize(image: &mut [u8]) -> Result<(), Error> {
+    let mut offset = 0;
+    // The pointers come from live borrows, with the lengths of their slices.
+    let code = unsafe { sys::nvram_normalize(image.as_mut_ptr(), image.len(), &mut offset) };
+    answer(code, offset, ())
+}
+
+/// Writes the listing of the partitions to the start of the text and answers that part of it.
+///
+/// ```
+/// let mut text = [0; 32];
+/// assert_eq!(nvram::listing(&[], &mut text)?, b"refused 1 at 0\n");
+/// # Ok::<(), nvram::Error>(())
+/// ```
+pub fn listing<'t>(image: &[u8], text: &'t mut [u8]) -> Result<&'t [u8], Error> {
+    let mut length = 0;
+    // The pointers come from live borrows, with the lengths of their slices.
+    let code = unsafe {
+        sys::nvram_listing(
+            image.as_ptr(),
+            image.len(),
+            text.as_mut_ptr(),
+            text.len(),
+            &mut length,
+        )
+    };
+    answer(code, 0, &text[..length])
+}

@@ -1,0 +1,180 @@
+//! The examples 1 to 12 of document 01.
+
+use crate::header::{checksum, header_bytes, padded_name};
+use crate::model::{self, canonical_area, Model};
+use crate::*;
+
+const COMMON: [u8; 12] = *b"common\0\0\0\0\0\0";
+const FREE: [u8; 12] = [0x77; 12];
+
+/// The base image E of 48 bytes.
+fn base() -> Vec<u8> {
+    let mut image = vec![0x70, 0xFD, 0x00, 0x02, 0x63, 0x6F, 0x6D, 0x6D, 0x6F, 0x6E];
+    image.extend([0; 6]);
+    image.extend([0x61, 0x3D, 0x31, 0x00]);
+    image.extend([0; 12]);
+    image.extend([0x7F, 0x1A, 0x00, 0x01]);
+    image.extend([0x77; 12]);
+    image
+}
+
+/// The base image with another start of its data area, the rest of which is 0x55.
+fn with_area(start: &[u8]) -> Vec<u8> {
+    let mut image = base();
+    image[16..32].fill(0x55);
+    image[16..16 + start.len()].copy_from_slice(start);
+    image
+}
+
+fn area_of(image: &[u8]) -> &[u8] {
+    &image[16..32]
+}
+
+fn padded(start: &[u8]) -> Vec<u8> {
+    let mut area = start.to_vec();
+    area.resize(16, 0);
+    area
+}
+
+#[test]
+fn example_1_checksums_of_common() {
+    let sums = [2, 3, 4, 5].map(|blocks| checksum(0x70, blocks, &COMMON));
+    assert_eq!(sums, [0xFD, 0xFE, 0xFF, 0x01]);
+}
+
+#[test]
+fn example_2_checksum_of_free_space() {
+    assert_eq!(checksum(0x7F, 1, &FREE), 0x1A);
+}
+
+#[test]
+fn checksum_agrees_with_the_formula() {
+    for length in 0..=u16::MAX {
+        for (signature, name) in [
+            (0x70, COMMON),
+            (0x7F, FREE),
+            (0, [0; 12]),
+            (0xFF, [0xFF; 12]),
+        ] {
+            let bytes = [signature]
+                .into_iter()
+                .chain(length.to_be_bytes())
+                .chain(name);
+            let sum: u32 = bytes.map(u32::from).sum();
+            let wanted = if sum == 0 { 0 } else { (sum - 1) % 255 + 1 };
+            assert_eq!(u32::from(checksum(signature, length, &name)), wanted);
+        }
+    }
+}
+
+#[test]
+fn example_3_base_image_is_accepted() {
+    assert_eq!(check(&base()), Ok(2));
+}
+
+#[test]
+fn example_4_image_lengths() {
+    assert_eq!(check(&[]), Err(Refusal::plain(1)));
+    assert_eq!(check(&base()[..40]), Err(Refusal::plain(1)));
+}
+
+#[test]
+fn example_5_first_partition_alone() {
+    let mut image = base()[..32].to_vec();
+    assert_eq!(check(&image), Ok(1));
+    image[3] = 3;
+    assert_eq!(check(&image), Err(Refusal::at(3, 0)));
+    image[3] = 0;
+    assert_eq!(check(&image), Err(Refusal::at(2, 0)));
+}
+
+#[test]
+fn examples_6_and_7_sets() {
+    let mut image = base();
+    assert_eq!(set(&mut image, b"b", &[0, 0, 0xFF]), Ok(()));
+    let wanted = padded(b"a=1\0b=\xFF\x02\xFF\x81\0");
+    assert_eq!(area_of(&image), wanted);
+    let before = image.clone();
+    assert_eq!(set(&mut image, b"c", b"12"), Err(Refusal::plain(13)));
+    assert_eq!(image, before);
+    assert_eq!(set(&mut image, b"c", b"1"), Ok(()));
+    assert_eq!(area_of(&image), b"a=1\0b=\xFF\x02\xFF\x81\0c=1\0\0");
+}
+
+#[test]
+fn example_8_values() {
+    let pairs: [(&[u8], &[u8]); 6] = [
+        (&[0; 127], &[0xFF, 0x7F]),
+        (&[0; 128], &[0xFF, 0x7F, 0xFF, 0x01]),
+        (&[0; 300], &[0xFF, 0x7F, 0xFF, 0x7F, 0xFF, 0x2E]),
+        (&[0xFF; 127], &[0xFF, 0xFF]),
+        (&[0xFE], &[0xFE]),
+        (&[], &[]),
+    ];
+    for (plain, stored) in pairs {
+        assert_eq!(value::encode(plain), stored);
+        assert_eq!(value::decode(stored).as_deref(), Some(plain));
+        assert_eq!(model::new_size(b"a", plain), stored.len() + 3);
+    }
+}
+
+#[test]
+fn example_9_split_run() {
+    let mut image = with_area(b"a=\xFF\x01\xFF\x01\0\0");
+    let mut buffer = [9; 3];
+    assert_eq!(read(&image, b"a", &mut buffer), Ok(2));
+    assert_eq!(buffer, [0, 0, 9]);
+    assert_eq!(normalize(&mut image), Ok(()));
+    assert_eq!(area_of(&image), padded(b"a=\xFF\x02\0"));
+    let entries = Model::of_image(&image).unwrap().entries;
+    assert_eq!(area_of(&image), canonical_area(16, &entries));
+}
+
+#[test]
+fn example_10_faults_in_the_area() {
+    let image = with_area(b"a=1\0A=2\0\0");
+    assert_eq!(count(&image), Err(Refusal::at(8, 20)));
+    let image = with_area(b"a=\xFF\x80");
+    assert_eq!(count(&image), Err(Refusal::at(9, 19)));
+}
+
+#[test]
+fn example_11_no_ending_byte() {
+    let image = with_area(b"a=xxxxxxxxxxxxx\0");
+    assert_eq!(count(&image), Err(Refusal::at(7, 32)));
+}
+
+#[test]
+fn example_12_long_partitions() {
+    let name = padded_name(b"common").unwrap();
+    let mut image = vec![0; 65_536 * 16];
+    image[..16].copy_from_slice(&header_bytes(0x70, 4_096, &name));
+    let rest = header_bytes(0x7F, 61_440, &FREE);
+    image[65_536..65_552].copy_from_slice(&rest);
+    assert_eq!(variables_range(&image).map(|range| range.len()), Ok(65_520));
+    image[..16].copy_from_slice(&header_bytes(0x70, 65_535, &name));
+    let last = image.len() - 16;
+    assert_eq!(check(&image), Err(Refusal::at(2, last)));
+    image[last..].copy_from_slice(&header_bytes(0x7F, 1, &FREE));
+    assert_eq!(check(&image), Ok(2));
+    assert_eq!(
+        variables_range(&image).map(|range| range.len()),
+        Ok(1_048_544)
+    );
+}
+
+#[test]
+fn listing_of_the_base_image() {
+    let wanted = "at blocks sig name\n0 2 70 common\n32 1 7F wwwwwwwwwwww\n3 blocks\n";
+    assert_eq!(listing(&base()), wanted.as_bytes());
+    let mut image = base();
+    image[1] = 0;
+    assert_eq!(listing(&image), b"refused 4 at 0\n");
+    assert_eq!(listing(&vec![0; 65_537]), b"too long\n");
+}
+
+#[test]
+fn name_rule_allows_61_bytes() {
+    let allowed: Vec<u8> = (0..=255).filter(|&byte| area::is_name_byte(byte)).collect();
+    assert_eq!(allowed.len(), 61);
+}
