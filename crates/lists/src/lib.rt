@@ -32,8 +32,33 @@ pub fn fill(s: &mut [u8], b: u8)
     }
 }
 
-// Moves n bytes to a lower offset: the lowest byte first.
-fn move_down(s: &mut [u8], from: usize, to: usize, n: usize)
+// Moves the 32 bytes at `from` to `to`: all are read before any is written.
+fn move_chunk(s: &mut [u8], from: usize, to: usize)
+    requires { ⌜ (from + 32 ≤ length (now s)) × (to + 32 ≤ length (now s)) ⌝ }
+    ensures { λ _. ⌜ now (s .exit) ≡ pasted (now (s .entry)) to (take 32 (drop from (now (s .entry)))) ⌝ }
+{
+    let mut chunk = [0u8; 32];
+    let from_end = from + 32;
+    copy(&s[from..from_end], &mut chunk);
+    let to_end = to + 32;
+    copy(&chunk, &mut s[to..to_end]);
+}
+
+// Moves whole chunks to a lower offset, the lowest first; answers how many of the n bytes they are.
+fn chunks_down(s: &mut [u8], from: usize, to: usize, n: usize) -> usize
+    requires { ⌜ (to ≤ from) × (from + n ≤ length (now s)) ⌝ }
+    ensures { λ r. ⌜ (r ≤ n) × (now (s .exit) ≡ pasted (now (s .entry)) to (take r (drop from (now (s .entry))))) ⌝ }
+{
+    let mut k = 0;
+    while 32 <= n - k {
+        move_chunk(s, from + k, to + k);
+        k += 32;
+    }
+    k
+}
+
+// Moves n bytes to a lower offset one by one, the lowest first.
+fn bytes_down(s: &mut [u8], from: usize, to: usize, n: usize)
     requires { ⌜ (to ≤ from) × (from + n ≤ length (now s)) ⌝ }
     ensures { λ _. ⌜ now (s .exit) ≡ pasted (now (s .entry)) to (take n (drop from (now (s .entry)))) ⌝ }
 {
@@ -44,8 +69,30 @@ fn move_down(s: &mut [u8], from: usize, to: usize, n: usize)
     }
 }
 
-// Moves n bytes to a higher offset: the highest byte first.
-fn move_up(s: &mut [u8], from: usize, to: usize, n: usize)
+// Moves n bytes to a lower offset: whole chunks, then what is left.
+fn move_down(s: &mut [u8], from: usize, to: usize, n: usize)
+    requires { ⌜ (to ≤ from) × (from + n ≤ length (now s)) ⌝ }
+    ensures { λ _. ⌜ now (s .exit) ≡ pasted (now (s .entry)) to (take n (drop from (now (s .entry)))) ⌝ }
+{
+    let k = chunks_down(s, from, to, n);
+    bytes_down(s, from + k, to + k, n - k);
+}
+
+// Moves whole chunks to a higher offset, the highest first; answers how many of the n bytes are left.
+fn chunks_up(s: &mut [u8], from: usize, to: usize, n: usize) -> usize
+    requires { ⌜ (from ≤ to) × (to + n ≤ length (now s)) ⌝ }
+    ensures { λ r. ⌜ (r ≤ n) × (now (s .exit) ≡ pasted (now (s .entry)) (to + r) (drop r (take n (drop from (now (s .entry)))))) ⌝ }
+{
+    let mut k = n;
+    while 32 <= k {
+        k -= 32;
+        move_chunk(s, from + k, to + k);
+    }
+    k
+}
+
+// Moves n bytes to a higher offset one by one, the highest first.
+fn bytes_up(s: &mut [u8], from: usize, to: usize, n: usize)
     requires { ⌜ (from ≤ to) × (to + n ≤ length (now s)) ⌝ }
     ensures { λ _. ⌜ now (s .exit) ≡ pasted (now (s .entry)) to (take n (drop from (now (s .entry)))) ⌝ }
 {
@@ -54,6 +101,15 @@ fn move_up(s: &mut [u8], from: usize, to: usize, n: usize)
         k -= 1;
         s[to + k] = s[from + k];
     }
+}
+
+// Moves n bytes to a higher offset: whole chunks, then what is left.
+fn move_up(s: &mut [u8], from: usize, to: usize, n: usize)
+    requires { ⌜ (from ≤ to) × (to + n ≤ length (now s)) ⌝ }
+    ensures { λ _. ⌜ now (s .exit) ≡ pasted (now (s .entry)) to (take n (drop from (now (s .entry)))) ⌝ }
+{
+    let k = chunks_up(s, from, to, n);
+    bytes_up(s, from, to, k);
 }
 
 // Moves the n bytes at `from` to `to`, where both lie inside the slice; they may overlap.

@@ -1,67 +1,41 @@
-use Prim.Native.Nat.{ℕ, _≤_, _<_, _-_, _+_}
-use mathlib.Core.Path.{_≡_, refl, sym, ap, _∙_}
-use mathlib.Core.List.{List}
-use native.Mathlib.Omega.{arith}
+use Rattle.lists.proofs.MoveLaws.{down-rest}
 use borrow.Author.Needs.{needs}
-use lib.ListN.{length, getD, set, take, drop, replicate, length-set}
-use Rattle.lists.specs.Pasted.{pasted}
-use Rattle.lists.proofs.PastedLaws as P
-use Rattle.lists.proofs.MoveLaws as M
 use Rattle.lists.proofs.move_down.Statement.{statement}
 use Rattle.lists.proofs.move_down.Tie as tie
 
-abbrev Inv-loop : tie.InvT-loop
-Inv-loop s₀ from to n k₀ s k = (k ≤ n) × (s ≡ pasted s₀ to (take k (drop from s₀))) × (length s ≡ length s₀)
+chunks-down-requires : tie.Need-chunks-down-requires
+chunks-down-requires c κs = search needs
 
-abbrev μ-loop : tie.MeasureT-loop
-μ-loop s₀ from to n k₀ s k = n - k
+add-bytes-down : tie.Need-add-bytes-down
+add-bytes-down c = search needs
 
-loop-holds : tie.Need-loop-holds Inv-loop μ-loop
-loop-holds c = (search needs, P.pasted-none _ _, refl)
+add-bytes-down-2 : tie.Need-add-bytes-down-2
+add-bytes-down-2 c = search needs
 
-add-s : tie.Need-add-s Inv-loop μ-loop
-add-s c = search needs
+sub-bytes-down : tie.Need-sub-bytes-down
+sub-bytes-down c = search needs
 
-slice-read-s : tie.Need-slice-read-s Inv-loop μ-loop
-slice-read-s c = search needs
+bytes-down-requires : tie.Need-bytes-down-requires
+bytes-down-requires c κs = search needs
 
-add-s-2 : tie.Need-add-s-2 Inv-loop μ-loop
-add-s-2 c = search needs
-
-slice-write-s : tie.Need-slice-write-s Inv-loop μ-loop
-slice-write-s c = search needs
-
-add-k : tie.Need-add-k Inv-loop μ-loop
-add-k c = search needs
-
-loop-less : tie.Need-loop-less Inv-loop μ-loop
-loop-less c = search needs
-
-loop-again : tie.Need-loop-again Inv-loop μ-loop
-loop-again c =
-    let l = c .before .before .loop in
-    let a = c .before .before .before .args in
-    (search needs, ap (λ (x : List ℕ). set x (a .to + l .k) (getD x (a .from + l .k) 0)) (l .inv .1) ∙ M.down-step _ (a .from) (a .to) (l .k) (search needs) (search needs), simp length-set (l .inv .2))
-
-same-length : tie.Need-same-length Inv-loop μ-loop
+same-length : tie.Need-same-length
 same-length c = search needs
 
-returns : tie.Need-returns Inv-loop μ-loop
-returns c = let l = c .before .loop in l .inv .1 ∙ M.down-end _ (c .before .before .args .from) _ (c .before .before .args .n) (l .k) (search needs) (search needs)
+returns : tie.Need-returns
+returns c =
+    let b = c .before .before in
+    let h = b .before .before .before .before in
+    let a = h .before .before .before .args in
+    down-rest _ (a .from) (a .to) (a .n) (h .chunks-down .result) (search needs) (search needs) (h .chunks-down .ensures .0) _ _ (h .chunks-down .ensures .1) (b .bytes-down .ensures)
 
 pub move-down-spec : {M : Type 1} → statement M
 move-down-spec =
     tie.close
     (tie.spec
-    Inv-loop
-    μ-loop
-    loop-holds
-    add-s
-    slice-read-s
-    add-s-2
-    slice-write-s
-    add-k
-    loop-less
-    loop-again
+    chunks-down-requires
+    add-bytes-down
+    add-bytes-down-2
+    sub-bytes-down
+    bytes-down-requires
     same-length
     returns)

@@ -1,0 +1,67 @@
+use Prim.Native.Nat.{ℕ, _≤_, _<_, _-_, _+_}
+use mathlib.Core.Path.{_≡_, refl, sym, ap, _∙_}
+use mathlib.Core.List.{List}
+use native.Mathlib.Omega.{arith}
+use borrow.Author.Needs.{needs}
+use lib.ListN.{length, getD, set, take, drop, replicate, length-set}
+use Rattle.lists.specs.Pasted.{pasted}
+use Rattle.lists.proofs.PastedLaws as P
+use Rattle.lists.proofs.MoveLaws as M
+use Rattle.lists.proofs.bytes_down.Statement.{statement}
+use Rattle.lists.proofs.bytes_down.Tie as tie
+
+abbrev Inv-loop : tie.InvT-loop
+Inv-loop s₀ from to n k₀ s k = (k ≤ n) × (s ≡ pasted s₀ to (take k (drop from s₀))) × (length s ≡ length s₀)
+
+abbrev μ-loop : tie.MeasureT-loop
+μ-loop s₀ from to n k₀ s k = n - k
+
+loop-holds : tie.Need-loop-holds Inv-loop μ-loop
+loop-holds c = (search needs, P.pasted-none _ _, refl)
+
+add-s : tie.Need-add-s Inv-loop μ-loop
+add-s c = search needs
+
+slice-read-s : tie.Need-slice-read-s Inv-loop μ-loop
+slice-read-s c = search needs
+
+add-s-2 : tie.Need-add-s-2 Inv-loop μ-loop
+add-s-2 c = search needs
+
+slice-write-s : tie.Need-slice-write-s Inv-loop μ-loop
+slice-write-s c = search needs
+
+add-k : tie.Need-add-k Inv-loop μ-loop
+add-k c = search needs
+
+loop-less : tie.Need-loop-less Inv-loop μ-loop
+loop-less c = search needs
+
+loop-again : tie.Need-loop-again Inv-loop μ-loop
+loop-again c =
+    let l = c .before .before .loop in
+    let a = c .before .before .before .args in
+    (search needs, ap (λ (x : List ℕ). set x (a .to + l .k) (getD x (a .from + l .k) 0)) (l .inv .1) ∙ M.down-step _ (a .from) (a .to) (l .k) (search needs) (search needs), simp length-set (l .inv .2))
+
+same-length : tie.Need-same-length Inv-loop μ-loop
+same-length c = search needs
+
+returns : tie.Need-returns Inv-loop μ-loop
+returns c = let l = c .before .loop in l .inv .1 ∙ M.down-end _ (c .before .before .args .from) _ (c .before .before .args .n) (l .k) (search needs) (search needs)
+
+pub bytes-down-spec : {M : Type 1} → statement M
+bytes-down-spec =
+    tie.close
+    (tie.spec
+    Inv-loop
+    μ-loop
+    loop-holds
+    add-s
+    slice-read-s
+    add-s-2
+    slice-write-s
+    add-k
+    loop-less
+    loop-again
+    same-length
+    returns)
