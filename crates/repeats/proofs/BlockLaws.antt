@@ -1,5 +1,5 @@
 -- Laws of a block: pieces are gathered into its table, and the later pieces looked up in it.
-use Prim.Native.Nat.{ℕ, _+_, _<_, _≤_}
+use Prim.Native.Nat.{ℕ, _+_, _*_, _<_, _≤_}
 use mathlib.Core.Path.{_≡_, refl, sym, ap, _∙_, subst}
 use mathlib.Core.Bool.{true, false}
 use mathlib.Core.List.{List}
@@ -11,8 +11,8 @@ use borrow.Author.Tests.{ltb-true, ltb-false}
 use Rattle.lists.proofs.Tests.{split}
 use Rattle.repeats.specs.Pieces.{nameAt, starts}
 use Rattle.repeats.specs.Places.{Start, Next, Distinct, Best}
-use Rattle.repeats.specs.Table.{Table, Hit, Looked, Entry, Holds, Block, Turn, Gathered}
-use Rattle.repeats.proofs.TableLaws.{split-eq, new-table}
+use Rattle.repeats.specs.Table.{Table, Hit, Walked, Entry, Holds, Block, Turn, Gathered}
+use Rattle.repeats.proofs.TableLaws.{split-eq, inserted, new-table}
 
 -- a block
 pub empty-holds : (l starts : List ℕ) (from : ℕ) → Holds l starts 0 from from
@@ -23,8 +23,8 @@ empty-holds l starts from = record {
   full = λ p a b s. absurd (omega arith);
 }
 
-pub empty-block : {l heads next starts : List ℕ} {from best : ℕ} → Table l heads next starts 0 → Distinct l from best → from < best → best ≤ length l → Start l from → Block l heads next starts 0 from from best
-empty-block {l} {heads} {next} {starts} {from} {best} t d h b s = record {
+pub empty-block : {l links starts : List ℕ} {from best : ℕ} → Table l links starts 0 → Distinct l from best → from < best → best ≤ length l → Start l from → Block l links starts 0 from from best
+empty-block {l} {links} {starts} {from} {best} t d h b s = record {
   table = t;
   holds = empty-holds l starts from;
   from-low = omega arith;
@@ -61,8 +61,8 @@ distinct-grow {l} {starts} {k} {from} {best} {at} {r} hs d m h n miss =
           (λ t. n .none q (omega (arith, ltb-false p at t)) c v);
     }
 
-holds-more : {l starts : List ℕ} {k from at r : ℕ} → length starts ≡ 1024 → k < 1024 → Holds l starts k from at → from ≤ at → Start l at → Next l at r → Holds l (set starts k at) (k + 1) from r
-holds-more {l} {starts} {k} {from} {at} {r} long room hs o st n = record {
+holds-more : {l starts : List ℕ} {k from at r : ℕ} → k < length starts → Holds l starts k from at → from ≤ at → Start l at → Next l at r → Holds l (set starts k at) (k + 1) from r
+holds-more {l} {starts} {k} {from} {at} {r} room hs o st n = record {
   begins = λ i h. split-eq i k
       (λ q. subst (λ (z : ℕ). Start l z) (sym (new i q)) st)
       (λ q. subst (λ (z : ℕ). Start l z) (sym (old i q)) (hs .begins i (omega arith)));
@@ -77,17 +77,17 @@ holds-more {l} {starts} {k} {from} {at} {r} long room hs o st n = record {
 }
   where
     new : (i : ℕ) → i ≡ k → getD (set starts k at) i 0 ≡ at
-    new i q = ap (λ (z : ℕ). getD (set starts k at) z 0) q ∙ getD-set-same starts k at 0 (omega (arith, long))
+    new i q = ap (λ (z : ℕ). getD (set starts k at) z 0) q ∙ getD-set-same starts k at 0 room
 
     old : (i : ℕ) → (i ≡ k → ⊥) → getD (set starts k at) i 0 ≡ getD starts i 0
     old i q = getD-set-other starts k i at 0 q
 
-module _ {l heads next starts : List ℕ} {k from at best : ℕ} (s : Block l heads next starts k from at best) where
-  pub block-more : (heads' next' starts' : List ℕ) (r : ℕ) → Distinct l from best → at < best → k < 1024 → Looked l starts k at false → Table l heads' next' starts' (k + 1) → starts' ≡ set starts k at → Next l at r → r ≤ best
-      → Block l heads' next' starts' (k + 1) from r best
-  block-more heads' next' starts' r d h room look t e n f = record {
-    table = t;
-    holds = subst (λ (z : List ℕ). Holds l z (k + 1) from r) (sym e) (holds-more (s .table .starts-long) room (s .holds) (s .from-low) (s .begins h) n);
+module _ {l links starts : List ℕ} {k from at best : ℕ} (s : Block l links starts k from at best) where
+  pub block-more : (links' starts' : List ℕ) (link r : ℕ) → Distinct l from best → at < best → k < length starts → Walked l links starts k at link false → links' ≡ set links link (k + 1) → starts' ≡ set starts k at → Next l at r → r ≤ best
+      → Block l links' starts' (k + 1) from r best
+  block-more links' starts' link r d h room look e g n f = record {
+    table = rw (e, g) (inserted at (s .table) room (look .free refl));
+    holds = rw g (holds-more room (s .holds) (s .from-low) (s .begins h) n);
     from-low = omega (arith, s .from-low, n .falls);
     at-high = f;
     best-in = s .best-in;
@@ -95,7 +95,7 @@ module _ {l heads next starts : List ℕ} {k from at best : ℕ} (s : Block l he
     apart = distinct-grow (s .holds) d (s .apart) h n (look .missed refl);
   }
 
-  pub block-hit : at < best → Looked l starts k at true → Gathered l heads next starts k from at best true
+  pub block-hit : {link : ℕ} → at < best → Walked l links starts k at link true → Gathered l links starts k from at best true
   block-hit h look =
       let t : Hit l starts k at = look .found refl in
       record {
@@ -104,11 +104,11 @@ module _ {l heads next starts : List ℕ} {k from at best : ℕ} (s : Block l he
         early = λ _. record { place = getD starts (t .entry) 0; before = s .holds .high (t .entry) (t .below); first = s .holds .begins (t .entry) (t .below); second = s .begins h; same = t .same };
       }
 
-  pub block-done : from < at → Gathered l heads next starts k from at best false
+  pub block-done : from < at → Gathered l links starts k from at best false
   block-done h = record { block = s; further = h; early = λ e. let z : _≡_ {A = ℕ} 0 1 = cc in absurd (omega arith) }
 
-  pub block-full : 1024 ≤ k → Gathered l heads next starts k from at best false
-  block-full h = block-done (omega (arith, s .holds .low 0 (omega arith), s .holds .high 0 (omega arith)))
+  pub block-full : length starts ≤ k → Gathered l links starts k from at best false
+  block-full h = let z : 0 < k = omega (arith, s .table .some) in block-done (omega (arith, s .holds .low 0 z, s .holds .high 0 z))
 
 -- the rest of the area against a block
 pub record Scanned (l : List ℕ) (from mid best at : ℕ) : Type 0 where
@@ -118,19 +118,19 @@ pub record Scanned (l : List ℕ) (from mid best at : ℕ) : Type 0 where
   pub high : at ≤ best
 
 -- what a scan answers
-module _ {l heads next starts : List ℕ} {k from mid best : ℕ} (s : Block l heads next starts k from mid best) where
+module _ {l links starts : List ℕ} {k from mid best : ℕ} (s : Block l links starts k from mid best) where
   pub scan-none : Scanned l from mid best mid
   scan-none = record { apart = s .apart; low = omega arith; begins = s .begins; high = s .at-high }
 
-  pub scan-more : {at r : ℕ} → Scanned l from mid best at → Distinct l from best → at < best → Looked l starts k at false → Next l at r → r ≤ best → Scanned l from mid best r
-  scan-more {at} {r} c d h look n f = record {
+  pub scan-more : {at r link : ℕ} → Scanned l from mid best at → Distinct l from best → at < best → Walked l links starts k at link false → Next l at r → r ≤ best → Scanned l from mid best r
+  scan-more {at} {r} {link} c d h look n f = record {
     apart = distinct-next (s .holds) d (c .apart) h (c .low) n (look .missed refl);
     low = omega (arith, c .low, n .falls);
     begins = λ w. n .start (omega (arith, s .best-in));
     high = f;
   }
 
-  pub scan-hit : {at : ℕ} → Scanned l from mid best at → from < mid → at < best → Looked l starts k at true → Turn l from best mid at
+  pub scan-hit : {at link : ℕ} → Scanned l from mid best at → from < mid → at < best → Walked l links starts k at link true → Turn l from best mid at
   scan-hit {at} c w h look =
       let t : Hit l starts k at = look .found refl in
       record {
@@ -151,14 +151,15 @@ module _ {l heads next starts : List ℕ} {k from mid best : ℕ} (s : Block l h
     begins = λ y. s .begins y;
   }
 
-pub turn-hit : {l heads next starts : List ℕ} {k from at best : ℕ} → Gathered l heads next starts k from at best true → Turn l from best at at
-turn-hit {l} {heads} {next} {starts} {k} {from} {at} {best} f = record {
+pub turn-hit : {l links starts : List ℕ} {k from at best : ℕ} → Gathered l links starts k from at best true → Turn l from best at at
+turn-hit {l} {links} {starts} {k} {from} {at} {best} f = record {
   distinct = f .block .apart;
   better = record { inside = omega (arith, f .block .at-high, f .block .best-in); hit = λ _. f .early refl };
   further = f .further;
   begins = λ y. absurd (omega arith);
 }
 
-pub new-block : {l : List ℕ} {from best : ℕ} → Distinct l from best → Best l best → from < best → Start l from
-    → Block l (replicate 2048 0) (replicate 1024 0) (replicate 1024 0) 0 from from best
-new-block {l} {from} {best} d b h s = empty-block (new-table l 2048 1024 refl refl) d h (b .inside) s
+-- a block in a new table of n entries
+pub new-block : (l : List ℕ) (from best m n : ℕ) → m ≡ 3 * n → 0 < n → n < 65536 → Distinct l from best × Best l best × (from < best) × Start l from
+    → Block l (replicate m 0) (replicate n 0) 0 from from best × Distinct l from best × Best l best × (from < best)
+new-block l from best m n e p q s = (empty-block (new-table l m n e p q) (s .0) (s .2) (s .1 .inside) (s .3), s .0, s .1, s .2)

@@ -1,10 +1,11 @@
 -- Laws of a name: read byte by byte, its end, its comparison with another and its hash.
-use Prim.Native.Nat.{ℕ, zero, suc, _+_, _*_, _/_, _%_, _<_, _≤_}
+use Prim.Native.Nat.{ℕ, zero, suc, _+_, _*_, _/_, _%_, _^_, _<_, _≤_}
 use mathlib.Core.Path.{_≡_, refl, sym, ap, _∙_}
 use mathlib.Core.Logic.{_⊎_, ⊎-elim, inl, inr}
 use mathlib.Core.Bool.{true, false}
 use mathlib.Core.List.{List, _∷_}
 use native.Mathlib.Omega.{arith}
+use lib.Bits.{xor-lt}
 use lib.Dec.{ltb}
 use lib.ListN.{length, drop, getD, drop-of-length-le}
 use borrow.Author.Tests.{eq-eqb, ne-eqb, ltb-true, ltb-false}
@@ -12,7 +13,7 @@ use Rattle.lists.specs.Bytes.{sameBytes}
 use Rattle.lists.proofs.Tests.{split}
 use Rattle.repeats.specs.Pieces.{endsName, nameOf, nameAt}
 use Rattle.repeats.specs.Places.{NameByte}
-use Rattle.repeats.specs.Table.{hashFrom, bucket}
+use Rattle.repeats.specs.Table.{mixed, hashFrom, hashOf}
 use Rattle.lists.proofs.ListLaws.{drop-next}
 
 -- a byte of a name
@@ -61,10 +62,21 @@ pub hash-end : {l : List ℕ} {i x : ℕ} (h : ℕ) → NameByte l i x → x ≡
 unfolding hashFrom
 hash-end h a z = rw (a .ended z)
 
-pub hash-step : {l : List ℕ} {i x : ℕ} (h : ℕ) → NameByte l i x → (x ≡ 0 → ⊥) → hashFrom h (nameAt l i) ≡ hashFrom ((h * 16777619 + x * 2654435) % 4294967296) (nameAt l (i + 1))
+pub hash-step : {l : List ℕ} {i x : ℕ} (h : ℕ) → NameByte l i x → (x ≡ 0 → ⊥) → hashFrom h (nameAt l i) ≡ hashFrom (mixed h x) (nameAt l (i + 1))
 unfolding hashFrom
 hash-step h a z = rw (a .goes (omega arith))
 
-pub bucket-is : (name : List ℕ) (h : ℕ) → hashFrom 0 name ≡ h → h / 65536 % 2048 ≡ bucket name
-unfolding bucket
-bucket-is name h e = rw e
+pub hash-is : (name : List ℕ) (h : ℕ) → hashFrom 11400714819323198485 name ≡ h → h ≡ hashOf name
+unfolding hashOf
+hash-is name h e = sym e
+
+-- the hash fits its type
+halves : (x y : ℕ) → x < 4294967296 → y < 4294967296 → x * 4294957665 + y < 2 ^ 64
+halves x y a b = omega arith
+
+pub carry-fits : (h : ℕ) → h < 2 ^ 64 → h % 4294967296 * 4294957665 + h / 4294967296 < 2 ^ 64
+carry-fits h a = halves (h % 4294967296) (h / 4294967296) (omega arith) (omega arith)
+
+pub mixed-fits : (h b : ℕ) → h < 2 ^ 64 → b < 256 → mixed h b < 2 ^ 64
+unfolding mixed
+mixed-fits h b a c = xor-lt 64 (h % 4294967296 * 4294957665 + h / 4294967296) (b * 44534042262981245) (carry-fits h a) (omega arith)

@@ -1,10 +1,9 @@
--- Laws of the table: its chains, a search along one, and an entry more.
-use Prim.Native.Nat.{ℕ, zero, suc, _+_, _-_, _<_, _≤_}
+-- Laws of the table: the walk in its trees, and an entry more.
+use Prim.Native.Nat.{ℕ, zero, suc, _+_, _-_, _*_, _/_, _%_, _<_, _≤_}
 use mathlib.Core.Path.{_≡_, refl, sym, ap, _∙_, subst}
-use mathlib.Core.Logic.{_⊎_, ⊎-elim, inl, inr}
 use mathlib.Core.Bool.{true, false}
 use mathlib.Core.List.{List}
-use native.Mathlib.Numerals.{add-one}
+use native.Mathlib.Nat.{mul-le-mul-right}
 use native.Mathlib.Omega.{arith}
 use lib.Dec.{eqb}
 use lib.ListN.{length, getD, set, replicate, length-replicate, length-set}
@@ -12,128 +11,131 @@ use lib.Seq.{getD-set-same, getD-set-other}
 use borrow.Author.Tests.{eqb-true, eqb-false}
 use Rattle.lists.proofs.Tests.{split}
 use Rattle.repeats.specs.Pieces.{nameAt, starts}
-use Rattle.repeats.specs.Table.{bucket, Reach, here, there, Table, Looked}
-
--- chains
-pub reach-none : {next : List ℕ} {i link : ℕ} → Reach next i link → link ≡ 0 → ⊥
-reach-none here e = omega arith
-reach-none (there r) e = omega arith
-
-pub reach-step : {next : List ℕ} {i link : ℕ} → Reach next i link → 0 < link → (i ≡ link - 1) ⊎ Reach next i (getD next (link - 1) 0)
-reach-step {next} {i} here h = let e : i ≡ suc i - 1 = omega arith in inl e
-reach-step {next} {i} (there {j} r) h = let e : j ≡ suc j - 1 = omega arith in inr (subst (λ (k : ℕ). Reach next i (getD next k 0)) e r)
-
--- the entries with the name are all ahead
-pub record Ahead (l next starts : List ℕ) (k at link : ℕ) : Type 0 where
-  pub low : link ≤ k
-  pub reach : (i : ℕ) → i < k → nameAt l (getD starts i 0) ≡ nameAt l at → Reach next i link
-
-module _ {l heads next starts : List ℕ} {k : ℕ} (t : Table l heads next starts k) where
-  pub ahead-all : (at b link : ℕ) → b ≡ bucket (nameAt l at) → link ≡ getD heads b 0 → Ahead l next starts k at link
-  ahead-all at b link e f = record {
-    low = let h : getD heads b 0 ≤ k = t .head-falls b in omega arith;
-    reach = λ i h q.
-        let g : getD heads (bucket (nameAt l (getD starts i 0))) 0 ≡ link = (λ x. getD heads (bucket (q x)) 0) ∙ ap (λ (n : ℕ). getD heads n 0) (sym e) ∙ sym f in
-        subst (λ (n : ℕ). Reach next i n) g (t .cover i h);
-  }
-
-  pub ahead-none : {at link : ℕ} → Ahead l next starts k at link → link ≡ 0 → Looked l starts k at false
-  ahead-none a z = record {
-    found = λ e. let z : _≡_ {A = ℕ} 0 1 = cc in absurd (omega arith);
-    missed = λ _ i h q. reach-none (a .reach i h q) z;
-  }
-
-  pub ahead-hit : {at link : ℕ} → Ahead l next starts k at link → 0 < link → nameAt l (getD starts (link - 1) 0) ≡ nameAt l at → Looked l starts k at true
-  ahead-hit {at} {link} a z e = record {
-    found = λ _. record { entry = link - 1; below = let h : link ≤ k = a .low in omega arith; same = e };
-    missed = λ e. let z : _≡_ {A = ℕ} 0 1 = cc in absurd (omega arith);
-  }
-
-  pub ahead-next : {at link : ℕ} → Ahead l next starts k at link → 0 < link → (nameAt l (getD starts (link - 1) 0) ≡ nameAt l at → ⊥) → Ahead l next starts k at (getD next (link - 1) 0)
-  ahead-next {at} {link} a z e = record {
-    low = let h : link ≤ k = a .low in let n : getD next (link - 1) 0 ≤ link - 1 = t .next-falls (link - 1) (omega arith) in omega arith;
-    reach = λ i h q. ⊎-elim
-        (λ s. absurd (e (ap (λ (n : ℕ). nameAt l (getD starts n 0)) (sym s) ∙ q)))
-        (λ r. r)
-        (reach-step (a .reach i h q) z);
-  }
-
--- a store past the entries leaves the chains
-reach-set : {next : List ℕ} {i link : ℕ} (k v : ℕ) → ((j : ℕ) → j < k → getD next j 0 ≤ j) → link ≤ k → Reach next i link → Reach (set next k v) i link
-reach-set k v f h here = here
-reach-set {next} {i} k v f h (there {j} r) =
-    let g : getD next j 0 ≤ j = f j (omega arith) in
-    let e : getD (set next k v) j 0 ≡ getD next j 0 = getD-set-other next k j v 0 (λ q. omega arith) in
-    there (subst (λ (n : ℕ). Reach (set next k v) i n) (sym e) (reach-set k v f (omega arith) r))
+use Rattle.repeats.specs.Table.{hashOf, rootOf, wayOf, Comes, here, there, Found, Table, Free, Walked}
 
 pub split-eq : {A : Type 0} (a b : ℕ) → (a ≡ b → A) → ((a ≡ b → ⊥) → A) → A
 split-eq a b f g = split (eqb a b) (λ t. f (eqb-true a b t)) (λ t. g (eqb-false a b t))
 
-pub inserted : {l heads next starts : List ℕ} {k : ℕ} (at b : ℕ) → Table l heads next starts k → k < 1024 → b ≡ bucket (nameAt l at) → b < 2048
-    → Table l (set heads b (k + 1)) (set next k (getD heads b 0)) (set starts k at) (k + 1)
-inserted {l} {heads} {next} {starts} {k} at b t r e f = record {
-  heads-long = length-set heads b (k + 1) ∙ t .heads-long;
-  next-long = length-set next k (getD heads b 0) ∙ t .next-long;
-  starts-long = length-set starts k at ∙ t .starts-long;
-  room = omega arith;
-  head-falls = λ c. split-eq c b
-      (λ q. let g : getD (set heads b (k + 1)) c 0 ≡ k + 1 = ap (λ (n : ℕ). getD (set heads b (k + 1)) n 0) q ∙ getD-set-same heads b (k + 1) 0 (omega (arith, t .heads-long)) in omega arith)
-      (λ q. let g : getD (set heads b (k + 1)) c 0 ≡ getD heads c 0 = getD-set-other heads b c (k + 1) 0 q in omega (arith, t .head-falls c));
-  next-falls = λ i h. split-eq i k
-      (λ q. let g : getD (set next k (getD heads b 0)) i 0 ≡ getD heads b 0 = ap (λ (n : ℕ). getD (set next k (getD heads b 0)) n 0) q ∙ here-next in omega (arith, t .head-falls b))
-      (λ q. let g : getD (set next k (getD heads b 0)) i 0 ≡ getD next i 0 = getD-set-other next k i (getD heads b 0) 0 q in omega (arith, t .next-falls i (omega arith)));
-  cover = λ i h. split-eq i k (λ q. new i q) (λ q. old i (omega arith));
-}
+-- the tree of a hash
+pub scaled : (h n : ℕ) → h % 65536 * n ≤ 65535 * n
+scaled h n = mul-le-mul-right n (omega arith)
+
+root-low : (n h : ℕ) → 0 < n → rootOf n h < n
+unfolding rootOf
+root-low n h z = omega (arith, scaled h n)
+
+-- the entry that a link leads to
+pub next-is : {x v : ℕ} → v ≡ x → (v ≡ 0 → ⊥) → x ≡ suc (v - 1)
+next-is e z = omega arith
+
+-- a walk: no entry is found at an empty link, and one other than the entry at a link is found past it
+found-none : {links : List ℕ} {n at way i : ℕ} → Found links n at way i → getD links at 0 ≡ 0 → ⊥
+found-none {links} {n} {at} {way} {i} f z = go (f .comes) z (f .is)
   where
-    next' : List ℕ
-    next' = set next k (getD heads b 0)
+    go : {s a w : ℕ} → Comes links n s a w → getD links a 0 ≡ 0 → getD links s 0 ≡ suc i → ⊥
+    go here z e = omega arith
+    go (there q r) z e = omega arith
 
-    here-next : getD (set next k (getD heads b 0)) k 0 ≡ getD heads b 0
-    here-next = getD-set-same next k (getD heads b 0) 0 (omega (arith, t .next-long))
+found-past : {links : List ℕ} {n at way i o : ℕ} → Found links n at way i → getD links at 0 ≡ suc o → (i ≡ o → ⊥) → Found links n (n + 2 * o + way % 2) (way / 2) i
+found-past {links} {n} {at} {way} {i} {o} f e d = go (f .comes) e (f .is)
+  where
+    go : {s a w : ℕ} → Comes links n s a w → getD links a 0 ≡ suc o → getD links s 0 ≡ suc i → Found links n (n + 2 * o + w % 2) (w / 2) i
+    go here e x = absurd (d (omega arith))
+    go {s} {a} {w} (there {j} q r) e x =
+        let y : j ≡ o = omega arith in
+        record { link = s; comes = subst (λ (z : ℕ). Comes links n s (n + 2 * z + w % 2) (w / 2)) y r; is = x }
 
-    here-start : getD (set starts k at) k 0 ≡ at
-    here-start = getD-set-same starts k at 0 (omega (arith, t .starts-long))
+-- where the walk to the name at `at` stands: the entries with the name are ahead, and what it comes to from here it comes to from its tree
+pub record Walk (l links starts : List ℕ) (k at h link way : ℕ) : Type 0 where
+  pub low : link < length starts + 2 * k
+  pub ahead : (i : ℕ) → i < k → nameAt l (getD starts i 0) ≡ nameAt l at → Found links (length starts) link way i
+  pub back : (s : ℕ) → Comes links (length starts) s link way → Comes links (length starts) s (rootOf (length starts) h) (wayOf h)
 
-    here-head : getD (set heads b (k + 1)) b 0 ≡ suc k
-    here-head = getD-set-same heads b (k + 1) 0 (omega (arith, t .heads-long)) ∙ add-one k
+module _ {l links starts : List ℕ} {k : ℕ} (t : Table l links starts k) where
+  pub walk-none : (at h : ℕ) → h ≡ hashOf (nameAt l at) → Walk l links starts k at h (rootOf (length starts) h) (wayOf h)
+  walk-none at h e = record {
+    low = omega (arith, root-low (length starts) h (t .some));
+    ahead = λ i b q. subst (λ (x : ℕ). Found links (length starts) (rootOf (length starts) x) (wayOf x) i) (ap hashOf q ∙ sym e) (t .cover i b);
+    back = λ s c. c;
+  }
 
-    new : (i : ℕ) → i ≡ k → Reach (set next k (getD heads b 0)) i (getD (set heads b (k + 1)) (bucket (nameAt l (getD (set starts k at) i 0))) 0)
-    new i q =
-        let g : getD (set starts k at) i 0 ≡ at = ap (λ (n : ℕ). getD (set starts k at) n 0) q ∙ here-start in
-        let p : getD (set heads b (k + 1)) (bucket (nameAt l (getD (set starts k at) i 0))) 0 ≡ suc i
-        = ap (λ (n : ℕ). getD (set heads b (k + 1)) (bucket (nameAt l n)) 0) g ∙ ap (λ (n : ℕ). getD (set heads b (k + 1)) n 0) (sym e) ∙ here-head ∙ ap suc (sym q) in
-        subst (λ (n : ℕ). Reach (set next k (getD heads b 0)) i n) (sym p) here
+  module _ {at h link way : ℕ} (w : Walk l links starts k at h link way) where
+    pub walk-end : h ≡ hashOf (nameAt l at) → getD links link 0 ≡ 0 → Walked l links starts k at link false
+    walk-end e z = record {
+      found = λ e. let z : _≡_ {A = ℕ} 0 1 = cc in absurd (omega arith);
+      missed = λ _ i b q. found-none (w .ahead i b q) z;
+      free = λ _. subst (λ (x : ℕ). Free links (length starts) k x link) e (record { comes = w .back link here; empty = z; low = w .low });
+    }
 
-    old : (i : ℕ) → i < k → Reach (set next k (getD heads b 0)) i (getD (set heads b (k + 1)) (bucket (nameAt l (getD (set starts k at) i 0))) 0)
-    old i h =
-        let g : getD (set starts k at) i 0 ≡ getD starts i 0 = getD-set-other starts k i at 0 (λ q. omega arith) in
-        let r : Reach (set next k (getD heads b 0)) i (getD heads (bucket (nameAt l (getD starts i 0))) 0)
-        = reach-set k (getD heads b 0) (t .next-falls) (t .head-falls (bucket (nameAt l (getD starts i 0)))) (t .cover i h) in
-        subst (λ (n : ℕ). Reach (set next k (getD heads b 0)) i (getD (set heads b (k + 1)) (bucket (nameAt l n)) 0)) (sym g)
-        (split-eq (bucket (nameAt l (getD starts i 0))) b
-        (λ q.
-        let p : getD (set heads b (k + 1)) (bucket (nameAt l (getD starts i 0))) 0 ≡ suc k = ap (λ (n : ℕ). getD (set heads b (k + 1)) n 0) q ∙ here-head in
-        let s : getD heads (bucket (nameAt l (getD starts i 0))) 0 ≡ getD (set next k (getD heads b 0)) k 0 = ap (λ (n : ℕ). getD heads n 0) q ∙ sym here-next in
-        subst (λ (n : ℕ). Reach (set next k (getD heads b 0)) i n) (sym p) (there (subst (λ (n : ℕ). Reach (set next k (getD heads b 0)) i n) s r)))
-        (λ q.
-        let p : getD (set heads b (k + 1)) (bucket (nameAt l (getD starts i 0))) 0 ≡ getD heads (bucket (nameAt l (getD starts i 0))) 0 = getD-set-other heads b (bucket (nameAt l (getD starts i 0))) (k + 1) 0 q in
-        subst (λ (n : ℕ). Reach (set next k (getD heads b 0)) i n) (sym p) r))
+    pub walk-hit : {i : ℕ} → getD links link 0 ≡ suc i → nameAt l (getD starts i 0) ≡ nameAt l at → Walked l links starts k at link true
+    walk-hit {i} v e = record {
+      found = λ _. record { entry = i; below = t .below link i v; same = e };
+      missed = λ e. let z : _≡_ {A = ℕ} 0 1 = cc in absurd (omega arith);
+      free = λ e. let z : _≡_ {A = ℕ} 0 1 = cc in absurd (omega arith);
+    }
 
-pub empty-table : (l heads next starts : List ℕ) → length heads ≡ 2048 → length next ≡ 1024 → length starts ≡ 1024 → ((b : ℕ) → getD heads b 0 ≡ 0) → Table l heads next starts 0
-empty-table l heads next starts a b c z = record {
-  heads-long = a;
-  next-long = b;
-  starts-long = c;
-  room = omega arith;
-  head-falls = λ n. omega (arith, z n);
-  next-falls = λ i h. absurd (omega arith);
-  cover = λ i h. absurd (omega arith);
-}
+    pub walk-next : {i : ℕ} → getD links link 0 ≡ suc i → (nameAt l (getD starts i 0) ≡ nameAt l at → ⊥) → Walk l links starts k at h (length starts + 2 * i + way % 2) (way / 2)
+    walk-next {i} v d = record {
+      low = omega (arith, t .below link i v);
+      ahead = λ j b q. found-past (w .ahead j b q) v (λ s. d (ap (λ (m : ℕ). nameAt l (getD starts m 0)) (sym s) ∙ q));
+      back = λ s c. w .back s (there v c);
+    }
+
+-- a store at an empty link leaves the walks
+other : (links : List ℕ) (e a v : ℕ) {j : ℕ} → getD links e 0 ≡ 0 → getD links a 0 ≡ suc j → getD (set links e v) a 0 ≡ suc j
+other links e a v z q = getD-set-other links e a v 0 (λ x. let y : getD links a 0 ≡ getD links e 0 = ap (λ (m : ℕ). getD links m 0) x in omega arith) ∙ q
+
+comes-set : {links : List ℕ} {n s at way : ℕ} (e v : ℕ) → getD links e 0 ≡ 0 → Comes links n s at way → Comes (set links e v) n s at way
+comes-set e v z here = here
+comes-set {links} e v z (there {at} q r) = there (other links e at v z q) (comes-set e v z r)
+
+found-set : {links : List ℕ} {n at way i : ℕ} (e v : ℕ) → getD links e 0 ≡ 0 → Found links n at way i → Found (set links e v) n at way i
+found-set {links} e v z f = record { link = f .link; comes = comes-set e v z (f .comes); is = other links e (f .link) v z (f .is) }
+
+-- an entry more
+module _ {l links starts : List ℕ} {k link : ℕ} (at : ℕ) (t : Table l links starts k) (r : k < length starts) (f : Free links (length starts) k (hashOf (nameAt l at)) link) where
+  pub link-in : link < length links
+  link-in = omega (arith, f .low, t .long)
+
+  new-link : (a : ℕ) → a ≡ link → getD (set links link (k + 1)) a 0 ≡ k + 1
+  new-link a q = ap (λ (m : ℕ). getD (set links link (k + 1)) m 0) q ∙ getD-set-same links link (k + 1) 0 link-in
+
+  new-start : (i : ℕ) → i ≡ k → getD (set starts k at) i 0 ≡ at
+  new-start i q = ap (λ (m : ℕ). getD (set starts k at) m 0) q ∙ getD-set-same starts k at 0 r
+
+  covered : (i : ℕ) → i < k + 1
+      → Found (set links link (k + 1)) (length starts) (rootOf (length starts) (hashOf (nameAt l (getD (set starts k at) i 0)))) (wayOf (hashOf (nameAt l (getD (set starts k at) i 0)))) i
+  covered i h = split-eq i k
+      (λ q. rw (new-start i q) (record { link = link; comes = comes-set link (k + 1) (f .empty) (f .comes); is = omega (arith, new-link link refl) }))
+      (λ q. rw (getD-set-other starts k i at 0 q) (found-set link (k + 1) (f .empty) (t .cover i (omega arith))))
+
+  pub inserted : Table l (set links link (k + 1)) (set starts k at) (k + 1)
+  inserted = record {
+    some = omega (arith, length-set starts k at);
+    small = omega (arith, length-set starts k at, t .small);
+    long = omega (arith, length-set starts k at, length-set links link (k + 1), t .long);
+    room = omega (arith, length-set starts k at);
+    below = λ a j q. split-eq a link
+        (λ e. omega (arith, new-link a e))
+        (λ e. omega (arith, t .below a j (sym (getD-set-other links link a (k + 1) 0 e) ∙ q)));
+    onward = λ a j q. split-eq a link
+        (λ e. omega (arith, new-link a e, f .low, length-set starts k at))
+        (λ e. omega (arith, t .onward a j (sym (getD-set-other links link a (k + 1) 0 e) ∙ q), length-set starts k at));
+    cover = λ i h. rw (length-set starts k at) (covered i h);
+  }
 
 getD-zeros : (n b : ℕ) → _≡_ {A = ℕ} (getD (replicate n 0) b 0) 0
 getD-zeros zero b = refl
 getD-zeros (suc n) zero = refl
 getD-zeros (suc n) (suc b) = getD-zeros n b
 
-pub new-table : (l : List ℕ) (h n : ℕ) → h ≡ 2048 → n ≡ 1024 → Table l (replicate h 0) (replicate n 0) (replicate n 0) 0
-new-table l h n e f = empty-table l (replicate h 0) (replicate n 0) (replicate n 0) (length-replicate h 0 ∙ e) (length-replicate n 0 ∙ f) (length-replicate n 0 ∙ f) (getD-zeros h)
+pub new-table : (l : List ℕ) (m n : ℕ) → m ≡ 3 * n → 0 < n → n < 65536 → Table l (replicate m 0) (replicate n 0) 0
+new-table l m n e p q = record {
+  some = omega (arith, length-replicate {A = ℕ} n 0);
+  small = omega (arith, length-replicate {A = ℕ} n 0);
+  long = omega (arith, length-replicate {A = ℕ} n 0, length-replicate {A = ℕ} m 0);
+  room = omega arith;
+  below = λ a j v. absurd (omega (arith, getD-zeros m a));
+  onward = λ a j v. absurd (omega (arith, getD-zeros m a));
+  cover = λ i h. absurd (omega arith);
+}

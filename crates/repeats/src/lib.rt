@@ -6,13 +6,19 @@ ghost use lib.ListN.{length, getD, set};
 ghost use Rattle.lists.specs.Bytes.{sameBytes};
 ghost use Rattle.repeats.specs.Pieces.{nameAt, firstRepeat};
 ghost use Rattle.repeats.specs.Places.{Start, NameByte, Next, Distinct, Best};
-ghost use Rattle.repeats.specs.Table.{bucket, Table, Looked, Block, Gathered, Turn};
+ghost use Rattle.repeats.specs.Table.{hashOf, Table, Walked, Block, Gathered, Turn};
 
 // The first piece whose name stood before, if there is one.
 pub enum Repeat {
     // The later piece begins here.
     At(usize),
     None,
+}
+
+// Whether the walk to a name finds it, and else the empty link where it ends.
+struct Place {
+    link: usize,
+    hit: bool,
 }
 
 // Where a block stops, how many starts it holds, and whether the name there stands in it.
@@ -56,21 +62,21 @@ fn name_byte(pairs: &[u8], at: usize) -> u8
     b
 }
 
-// The bucket of the name at `at`.
+// The hash of the name at `at`.
 fn name_hash(pairs: &[u8], at: usize) -> usize
-    ensures { λ r. ⌜ (r ≡ bucket (nameAt (now (pairs .entry)) at)) × (r < 2048) ⌝ }
+    ensures { λ r. ⌜ r ≡ hashOf (nameAt (now (pairs .entry)) at) ⌝ }
 {
     let mut i = at;
-    let mut h = 0;
+    let mut h = 11400714819323198485;
     loop {
         let b = name_byte(pairs, i);
         if b == 0 {
             break;
         }
-        h = (h * 16777619 + byte(b) * 2654435) % 4294967296;
+        h = (h % 4294967296 * 4294957665 + h / 4294967296) ^ (byte(b) * 44534042262981245);
         i += 1;
     }
-    h / 65536 % 2048
+    h
 }
 
 // Where the next piece begins, or the end.
@@ -108,61 +114,45 @@ fn same_name(pairs: &[u8], p: usize, q: usize) -> bool
     }
 }
 
-// Whether the name at `at`, whose bucket is b, stands in the table.
-fn look_up(
-    pairs: &[u8],
-    heads: &[u16],
-    next: &[u16],
-    starts: &[usize],
-    count: usize,
-    at: usize,
-    b: usize,
-) -> bool
-    requires { ⌜ Table (now pairs) (now heads) (now next) (now starts) count × (b ≡ bucket (nameAt (now pairs) at)) × (b < 2048) ⌝ }
-    ensures { λ r. ⌜ Looked (now (pairs .entry)) (now (starts .entry)) count at r ⌝ }
+// Walks by the hash h to the name at `at`.
+fn walk(pairs: &[u8], links: &[u16], starts: &[usize], count: usize, at: usize, h: usize) -> Place
+    requires { ⌜ Table (now pairs) (now links) (now starts) count × (h ≡ hashOf (nameAt (now pairs) at)) ⌝ }
+    ensures { λ r. ⌜ Walked (now (pairs .entry)) (now (links .entry)) (now (starts .entry)) count at (r .link) (r .hit) ⌝ }
 {
-    let mut link = wide(heads[b]);
-    while 0 < link {
-        let i = link - 1;
+    let mut link = h % 65536 * starts.len() / 65536;
+    let mut way = h / 65536;
+    let hit = loop {
+        let next = wide(links[link]);
+        if next == 0 {
+            break false;
+        }
+        let i = next - 1;
         let p = starts[i];
         if same_name(pairs, p, at) {
-            return true;
+            break true;
         }
-        link = wide(next[i]);
+        link = starts.len() + 2 * i + way % 2;
+        way /= 2;
+    };
+    Place {
+        link: link,
+        hit: hit,
     }
-    false
 }
 
-// Puts the piece at `at`, whose name has the bucket b, into the table.
-fn insert(
-    pairs: &[u8],
-    heads: &mut [u16],
-    next: &mut [u16],
-    starts: &mut [usize],
-    count: usize,
-    at: usize,
-    b: usize,
-)
-    requires { ⌜ Table (now pairs) (now heads) (now next) (now starts) count × (b ≡ bucket (nameAt (now pairs) at)) × (b < 2048) × (count < 1024) ⌝ }
-    ensures { λ _. ⌜ Table (now (pairs .entry)) (now (heads .exit)) (now (next .exit)) (now (starts .exit)) (count + 1) × (now (starts .exit) ≡ set (now (starts .entry)) count at) ⌝ }
+// Puts the piece at `at` into the table, at the empty link where the walk to its name ends.
+fn insert(links: &mut [u16], starts: &mut [usize], count: usize, link: usize, at: usize)
+    requires { ⌜ (count < length (now starts)) × (length (now starts) < 65536) × (link < length (now links)) ⌝ }
+    ensures { λ _. ⌜ (now (links .exit) ≡ set (now (links .entry)) link (count + 1)) × (now (starts .exit) ≡ set (now (starts .entry)) count at) ⌝ }
 {
-    let old = heads[b];
-    next[count] = old;
     starts[count] = at;
-    heads[b] = (count + 1) as u16;
+    links[link] = (count + 1) as u16;
 }
 
 // Gathers a block of the pieces from `from` on, until it is full, or at `best`, or where a name stands in it.
-fn gather(
-    pairs: &[u8],
-    heads: &mut [u16],
-    next: &mut [u16],
-    starts: &mut [usize],
-    from: usize,
-    best: usize,
-) -> Stop
-    requires { ⌜ Block (now pairs) (now heads) (now next) (now starts) 0 from from best × Distinct (now pairs) from best × Best (now pairs) best × (from < best) ⌝ }
-    ensures { λ r. ⌜ Gathered (now (pairs .entry)) (now (heads .exit)) (now (next .exit)) (now (starts .exit)) (r .count) from (r .at) best (r .hit) ⌝ }
+fn gather(pairs: &[u8], links: &mut [u16], starts: &mut [usize], from: usize, best: usize) -> Stop
+    requires { ⌜ Block (now pairs) (now links) (now starts) 0 from from best × Distinct (now pairs) from best × Best (now pairs) best × (from < best) ⌝ }
+    ensures { λ r. ⌜ Gathered (now (pairs .entry)) (now (links .exit)) (now (starts .exit)) (r .count) from (r .at) best (r .hit) ⌝ }
 {
     let mut at = from;
     let mut count = 0;
@@ -170,14 +160,15 @@ fn gather(
         if best <= at {
             break false;
         }
-        if 1024 <= count {
+        if starts.len() <= count {
             break false;
         }
-        let b = name_hash(pairs, at);
-        if look_up(pairs, heads, next, starts, count, at, b) {
+        let h = name_hash(pairs, at);
+        let w = walk(pairs, links, starts, count, at, h);
+        if w.hit {
             break true;
         }
-        insert(pairs, heads, next, starts, count, at, b);
+        insert(links, starts, count, w.link, at);
         count += 1;
         at = next_start(pairs, at);
     };
@@ -191,21 +182,21 @@ fn gather(
 // Looks up the pieces from `mid` up to `best` in the block from `from` to `mid`: the first that is found, or `best`.
 fn look_ahead(
     pairs: &[u8],
-    heads: &[u16],
-    next: &[u16],
+    links: &[u16],
     starts: &[usize],
     count: usize,
     from: usize,
     mid: usize,
     best: usize,
 ) -> usize
-    requires { ⌜ Block (now pairs) (now heads) (now next) (now starts) count from mid best × Distinct (now pairs) from best × Best (now pairs) best × (from < mid) ⌝ }
+    requires { ⌜ Block (now pairs) (now links) (now starts) count from mid best × Distinct (now pairs) from best × Best (now pairs) best × (from < mid) ⌝ }
     ensures { λ r. ⌜ Turn (now (pairs .entry)) from best mid r ⌝ }
 {
     let mut at = mid;
     while at < best {
-        let b = name_hash(pairs, at);
-        if look_up(pairs, heads, next, starts, count, at, b) {
+        let h = name_hash(pairs, at);
+        let w = walk(pairs, links, starts, count, at, h);
+        if w.hit {
             return at;
         }
         at = next_start(pairs, at);
@@ -213,15 +204,12 @@ fn look_ahead(
     best
 }
 
-// One block: its pieces are told apart, and the later ones up to `best` from them.
-fn turn(pairs: &[u8], from: usize, best: usize) -> Turned
-    requires { ⌜ Distinct (now pairs) from best × Best (now pairs) best × (from < best) × Start (now pairs) from ⌝ }
+// One block, in a table that is empty: its pieces are told apart, and the later ones up to `best` from them.
+fn turn(pairs: &[u8], links: &mut [u16], starts: &mut [usize], from: usize, best: usize) -> Turned
+    requires { ⌜ Block (now pairs) (now links) (now starts) 0 from from best × Distinct (now pairs) from best × Best (now pairs) best × (from < best) ⌝ }
     ensures { λ r. ⌜ Turn (now (pairs .entry)) from best (r .mid) (r .best) ⌝ }
 {
-    let mut heads = [0u16; 2048];
-    let mut next = [0u16; 1024];
-    let mut starts = [0usize; 1024];
-    let f = gather(pairs, &mut heads, &mut next, &mut starts, from, best);
+    let f = gather(pairs, links, starts, from, best);
     let mid = f.at;
     let count = f.count;
     if f.hit {
@@ -230,8 +218,18 @@ fn turn(pairs: &[u8], from: usize, best: usize) -> Turned
             best: mid,
         };
     }
-    let b = look_ahead(pairs, &heads, &next, &starts, count, from, mid, best);
+    let b = look_ahead(pairs, links, starts, count, from, mid, best);
     Turned { mid: mid, best: b }
+}
+
+// One block of an area, with a table of 1,024 entries.
+fn turn_small(pairs: &[u8], from: usize, best: usize) -> Turned
+    requires { ⌜ Distinct (now pairs) from best × Best (now pairs) best × (from < best) × Start (now pairs) from ⌝ }
+    ensures { λ r. ⌜ Turn (now (pairs .entry)) from best (r .mid) (r .best) ⌝ }
+{
+    let mut links = [0u16; 3072];
+    let mut starts = [0usize; 1024];
+    turn(pairs, &mut links, &mut starts, from, best)
 }
 
 // The first piece whose name stood before. A piece begins at 0 and after each 0x00; its name ends before its first `=` or 0x00.
@@ -241,7 +239,7 @@ pub fn first_repeat(pairs: &[u8]) -> Repeat
     let mut best = pairs.len();
     let mut from = 0;
     while from < best {
-        let t = turn(pairs, from, best);
+        let t = turn_small(pairs, from, best);
         from = t.mid;
         best = t.best;
     }

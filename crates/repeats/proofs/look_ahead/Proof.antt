@@ -5,29 +5,29 @@ use native.Mathlib.Omega.{arith}
 use borrow.Author.Needs.{needs}
 use Rattle.repeats.specs.Pieces.{starts}
 use Rattle.repeats.specs.Places.{Distinct, Best}
-use Rattle.repeats.specs.Table.{Looked, Block}
+use Rattle.repeats.specs.Table.{Walked, Block}
 use Rattle.repeats.proofs.StartLaws.{next-low, best-start}
 use Rattle.repeats.proofs.BlockLaws.{Scanned, scan-none, scan-more, scan-hit, scan-end}
 use Rattle.repeats.proofs.look_ahead.Statement.{statement}
 use Rattle.repeats.proofs.look_ahead.Tie as tie
 
 abbrev Inv-loop : tie.InvT-loop
-Inv-loop pairs heads next starts count from mid best at₀ at = Block pairs heads next starts count from mid best × Distinct pairs from best × Best pairs best × (from < mid) × Scanned pairs from mid best at
+Inv-loop pairs links starts count from mid best at₀ at = Block pairs links starts count from mid best × Distinct pairs from best × Best pairs best × (from < mid) × Scanned pairs from mid best at
 
 abbrev μ-loop : tie.MeasureT-loop
-μ-loop pairs heads next starts count from mid best at₀ at = best - at
+μ-loop pairs links starts count from mid best at₀ at = best - at
 
 loop-holds : tie.Need-loop-holds Inv-loop μ-loop
-loop-holds c = let s = c .before .before .before .before .pre in (s .0, s .1, s .2, s .3, scan-none (s .0))
+loop-holds c = let s = c .before .before .before .pre in (s .0, s .1, s .2, s .3, scan-none (s .0))
 
 name-hash-requires : tie.Need-name-hash-requires Inv-loop μ-loop
 name-hash-requires c κs = search needs
 
-look-up-requires : tie.Need-look-up-requires Inv-loop μ-loop
-look-up-requires c κs = (c .before .before .loop .inv .0 .table, c .name-hash .ensures .0, c .name-hash .ensures .1)
+walk-requires : tie.Need-walk-requires Inv-loop μ-loop
+walk-requires c κs = (c .before .before .loop .inv .0 .table, c .name-hash .ensures)
 
 returns : tie.Need-returns Inv-loop μ-loop
-returns c = let s = c .before .before .before .before .loop .inv in scan-hit (s .0) (s .4) (s .3) (c .before .before .before .loop-test .taken) (subst (Looked _ _ _ _) (c .if1 .taken) (c .before .look-up .ensures))
+returns c = let s = c .before .before .before .before .loop .inv in scan-hit (s .0) (s .4) (s .3) (c .before .before .before .loop-test .taken) (subst (Walked _ _ _ _ _ _) (c .if1 .taken) (c .before .walk .ensures))
 
 next-start-requires : tie.Need-next-start-requires Inv-loop μ-loop
 next-start-requires c κs = let s = c .before .before .before .before .loop .inv in omega (arith, s .0 .best-in, c .before .before .before .loop-test .taken)
@@ -36,7 +36,7 @@ loop-less : tie.Need-loop-less Inv-loop μ-loop
 loop-less c = omega (arith, c .next-start .ensures .falls, c .before .before .before .before .loop-test .taken)
 
 loop-again : tie.Need-loop-again Inv-loop μ-loop
-loop-again c = let s = c .before .before .before .before .before .loop .inv in (s .0, s .1, s .2, s .3, scan-more (s .0) (s .4) (s .1) (c .before .before .before .before .loop-test .taken) (subst (Looked _ _ _ _) (c .before .if1 .left) (c .before .before .look-up .ensures)) (c .next-start .ensures) (next-low (c .next-start .ensures) (c .before .before .before .before .loop-test .taken) (s .0 .best-in) (best-start (s .2))))
+loop-again c = let s = c .before .before .before .before .before .loop .inv in (s .0, s .1, s .2, s .3, scan-more (s .0) (s .4) (s .1) (c .before .before .before .before .loop-test .taken) (subst (Walked _ _ _ _ _ _) (c .before .if1 .left) (c .before .before .walk .ensures)) (c .next-start .ensures) (next-low (c .next-start .ensures) (c .before .before .before .before .loop-test .taken) (s .0 .best-in) (best-start (s .2))))
 
 returns-2 : tie.Need-returns-2 Inv-loop μ-loop
 returns-2 c = let s = c .before .loop .inv in scan-end (s .0) (s .4) (s .3) (c .loop-test .left) (s .2)
@@ -49,7 +49,7 @@ look-ahead-spec =
     μ-loop
     loop-holds
     name-hash-requires
-    look-up-requires
+    walk-requires
     returns
     next-start-requires
     loop-less
