@@ -222,7 +222,17 @@ fn turn(pairs: &[u8], links: &mut [u16], starts: &mut [usize], from: usize, best
     Turned { mid: mid, best: b }
 }
 
-// One block of an area, with a table of 1,024 entries.
+// One block, with a table of 64 entries.
+fn turn_tiny(pairs: &[u8], from: usize, best: usize) -> Turned
+    requires { ⌜ Distinct (now pairs) from best × Best (now pairs) best × (from < best) × Start (now pairs) from ⌝ }
+    ensures { λ r. ⌜ Turn (now (pairs .entry)) from best (r .mid) (r .best) ⌝ }
+{
+    let mut links = [0u16; 192];
+    let mut starts = [0usize; 64];
+    turn(pairs, &mut links, &mut starts, from, best)
+}
+
+// One block, with a table of 1,024 entries.
 fn turn_small(pairs: &[u8], from: usize, best: usize) -> Turned
     requires { ⌜ Distinct (now pairs) from best × Best (now pairs) best × (from < best) × Start (now pairs) from ⌝ }
     ensures { λ r. ⌜ Turn (now (pairs .entry)) from best (r .mid) (r .best) ⌝ }
@@ -232,6 +242,37 @@ fn turn_small(pairs: &[u8], from: usize, best: usize) -> Turned
     turn(pairs, &mut links, &mut starts, from, best)
 }
 
+// One block, with a table of 4,096 entries.
+fn turn_large(pairs: &[u8], from: usize, best: usize) -> Turned
+    requires { ⌜ Distinct (now pairs) from best × Best (now pairs) best × (from < best) × Start (now pairs) from ⌝ }
+    ensures { λ r. ⌜ Turn (now (pairs .entry)) from best (r .mid) (r .best) ⌝ }
+{
+    let mut links = [0u16; 12288];
+    let mut starts = [0usize; 4096];
+    turn(pairs, &mut links, &mut starts, from, best)
+}
+
+// One block, with a table that suits the area. The first test never holds; it keeps the tables in frames of their own, since the compiler puts no large frame into a function that calls itself. So an area of up to 64 KiB takes less than 16 KiB of stack, and a larger one less than 64 KiB.
+fn turn_sized(pairs: &[u8], from: usize, best: usize) -> Turned
+    requires { ⌜ Distinct (now pairs) from best × Best (now pairs) best × (from < best) × Start (now pairs) from ⌝ }
+    ensures { λ r. ⌜ Turn (now (pairs .entry)) from best (r .mid) (r .best) ⌝ }
+{
+    if best < from {
+        let t = turn_sized(pairs, best, from);
+        return Turned {
+            mid: t.best,
+            best: t.mid,
+        };
+    }
+    if pairs.len() <= 1024 {
+        return turn_tiny(pairs, from, best);
+    }
+    if pairs.len() <= 65536 {
+        return turn_small(pairs, from, best);
+    }
+    turn_large(pairs, from, best)
+}
+
 // The first piece whose name stood before. A piece begins at 0 and after each 0x00; its name ends before its first `=` or 0x00.
 pub fn first_repeat(pairs: &[u8]) -> Repeat
     ensures { λ r. ⌜ r ≡ firstRepeat (now (pairs .entry)) ⌝ }
@@ -239,7 +280,7 @@ pub fn first_repeat(pairs: &[u8]) -> Repeat
     let mut best = pairs.len();
     let mut from = 0;
     while from < best {
-        let t = turn_small(pairs, from, best);
+        let t = turn_sized(pairs, from, best);
         from = t.mid;
         best = t.best;
     }

@@ -16,14 +16,14 @@ abbrev μ-loop : tie.MeasureT-loop
 loop-holds : tie.Need-loop-holds Inv-loop μ-loop
 loop-holds c = (none-yet _, end-best _, start-zero _)
 
-turn-small-requires : tie.Need-turn-small-requires Inv-loop μ-loop
-turn-small-requires c κs = let s = c .before .loop .inv in (s .0, s .1, c .loop-test .taken, s .2 (c .loop-test .taken))
+turn-sized-requires : tie.Need-turn-sized-requires Inv-loop μ-loop
+turn-sized-requires c κs = let s = c .before .loop .inv in (s .0, s .1, c .loop-test .taken, s .2 (c .loop-test .taken))
 
 loop-less : tie.Need-loop-less Inv-loop μ-loop
-loop-less c = omega (arith, c .turn-small .ensures .further, c .before .before .loop .inv .1 .inside, c .before .loop-test .taken)
+loop-less c = omega (arith, c .turn-sized .ensures .further, c .before .before .loop .inv .1 .inside, c .before .loop-test .taken)
 
 loop-again : tie.Need-loop-again Inv-loop μ-loop
-loop-again c = let t = c .turn-small .ensures in (t .distinct, t .better, t .begins)
+loop-again c = let t = c .turn-sized .ensures in (t .distinct, t .better, t .begins)
 
 returns : tie.Need-returns Inv-loop μ-loop
 returns c = let s = c .before .before .loop .inv in first-at (s .0) (s .1) (c .before .loop-test .left) (c .if1 .taken)
@@ -34,4 +34,4 @@ returns-2 c = let s = c .before .before .loop .inv in first-none (s .0) (s .1) (
 pub first-repeat-spec : {M : Type 1} → statement M
 first-repeat-spec =
     tie.close
-    (tie.spec Inv-loop μ-loop loop-holds turn-small-requires loop-less loop-again returns returns-2)
+    (tie.spec Inv-loop μ-loop loop-holds turn-sized-requires loop-less loop-again returns returns-2)
