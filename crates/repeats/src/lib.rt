@@ -1,8 +1,8 @@
 // The test for a second name: the first piece whose name stood before.
 ghost use mathlib.Core.Path.{_≡_};
-ghost use mathlib.Core.Bool.{true, false};
-ghost use Prim.Native.Nat.{ℕ, _+_, _-_, _*_, _<_, _≤_};
-ghost use lib.ListN.{length, getD, set};
+ghost use mathlib.Core.Bool.{false};
+ghost use Prim.Native.Nat.{_+_, _<_, _≤_};
+ghost use lib.ListN.{length, set};
 ghost use Rattle.lists.specs.Bytes.{sameBytes};
 ghost use Rattle.repeats.specs.Pieces.{nameAt, firstRepeat};
 ghost use Rattle.repeats.specs.Places.{Start, NameByte, Whole, Next, Distinct, Best};
@@ -41,7 +41,7 @@ fn wide(x: u16) -> usize
     x as usize
 }
 
-// A byte as a number that the hash adds.
+// A byte as a number for the hash.
 fn byte(x: u8) -> usize
     ensures { λ r. ⌜ (r ≡ x) × (r < 256) ⌝ }
 {
@@ -62,7 +62,7 @@ fn name_byte(pairs: &[u8], at: usize) -> u8
     b
 }
 
-// The hash of the name at `at`.
+// The hash of the name at `at`: multiply with carry on its two halves, and each byte, spread over them, by exclusive or.
 fn name_hash(pairs: &[u8], at: usize) -> usize
     ensures { λ r. ⌜ r ≡ hashOf (nameAt (now (pairs .entry)) at) ⌝ }
 {
@@ -143,7 +143,7 @@ fn same_name(pairs: &[u8], p: usize, q: usize) -> bool
     }
 }
 
-// Walks by the hash h to the name at `at`.
+// Walks by the hash h to the name at `at`: from the link of its tree on, at each entry with another name to the child that the next bit chooses.
 fn walk(pairs: &[u8], links: &[u16], starts: &[usize], count: usize, at: usize, h: usize) -> Place
     requires { ⌜ Table (now pairs) (now links) (now starts) count × (h ≡ hashOf (nameAt (now pairs) at)) ⌝ }
     ensures { λ r. ⌜ Walked (now (pairs .entry)) (now (links .entry)) (now (starts .entry)) count at (r .link) (r .hit) ⌝ }

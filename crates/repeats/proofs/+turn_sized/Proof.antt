@@ -1,5 +1,4 @@
 -- The proof of the cycle of calls {turn_sized}: its call of itself is never reached, and each size of table meets the contract.
-use borrow.Author.Needs.{needs}
 use native.Mathlib.Omega.{arith}
 use Prim.Native.Nat.{ℕ, _<_}
 use borrow.Fn.Kinds.{In}

@@ -1,5 +1,5 @@
 -- `repeats::walk` meets its contract. The invariant: the entries of that name are all ahead in the walk.
-use Prim.Native.Nat.{_-_, _≤_}
+use Prim.Native.Nat.{_-_}
 use mathlib.Core.Path.{_≡_, sym, _∙_}
 use native.Mathlib.Omega.{arith}
 use lib.ListN.{length}
