@@ -16,10 +16,6 @@ pub record NameByte (l : List ℕ) (at b : ℕ) : Type 0 where
   pub goes : 0 < b → nameAt l at ≡ b ∷ nameAt l (at + 1)
   pub within : 0 < b → at < length l
 
--- no byte from `from` up to `to` is 0x00
-pub record Whole (l : List ℕ) (from to : ℕ) : Type 0 where
-  pub none : (i : ℕ) → from ≤ i → i < to → getD l i 0 ≡ 0 → ⊥
-
 -- r is the next start after at, or the end
 pub record Next (l : List ℕ) (at r : ℕ) : Type 0 where
   pub falls : at < r

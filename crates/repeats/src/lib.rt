@@ -5,7 +5,7 @@ ghost use Prim.Native.Nat.{_+_, _<_, _≤_};
 ghost use lib.ListN.{length, set};
 ghost use Rattle.lists.specs.Bytes.{sameBytes};
 ghost use Rattle.repeats.specs.Pieces.{nameAt, firstRepeat};
-ghost use Rattle.repeats.specs.Places.{Start, NameByte, Whole, Next, Distinct, Best};
+ghost use Rattle.repeats.specs.Places.{Start, NameByte, Next, Distinct, Best};
 ghost use Rattle.repeats.specs.Table.{hashOf, Table, Walked, Block, Gathered, Turn};
 
 // The first piece whose name stood before, if there is one.
@@ -79,48 +79,16 @@ fn name_hash(pairs: &[u8], at: usize) -> usize
     h
 }
 
-// Whether one of the eight bytes from `at` on is 0x00.
-fn ends_in_eight(pairs: &[u8], at: usize) -> bool
-    requires { ⌜ at + 8 ≤ length (now pairs) ⌝ }
-    ensures { λ r. ⌜ (r ≡ false → Whole (now (pairs .entry)) at (at + 8)) ⌝ }
-{
-    let mut ends = false;
-    let mut i = at;
-    while i < at + 8 {
-        ends = ends | (pairs[i] == 0);
-        i += 1;
-    }
-    ends
-}
-
-// Past bytes from `at` on, eight at a time, that are not 0x00.
-fn skip(pairs: &[u8], at: usize) -> usize
-    requires { ⌜ at < length (now pairs) ⌝ }
-    ensures { λ r. ⌜ (at ≤ r) × (r ≤ length (now (pairs .entry))) × Whole (now (pairs .entry)) at r ⌝ }
-{
-    let mut i = at;
-    while 8 <= pairs.len() - i {
-        if ends_in_eight(pairs, i) {
-            break;
-        }
-        i += 8;
-    }
-    i
-}
-
 // Where the next piece begins, or the end.
 fn next_start(pairs: &[u8], at: usize) -> usize
     requires { ⌜ at < length (now pairs) ⌝ }
     ensures { λ r. ⌜ Next (now (pairs .entry)) at r ⌝ }
 {
-    let mut i = skip(pairs, at);
-    while i < pairs.len() {
-        if pairs[i] == 0 {
-            return i + 1;
-        }
-        i += 1;
+    let zero = lists::find_either(pairs, at, 0, 0);
+    if zero < pairs.len() {
+        return zero + 1;
     }
-    i
+    zero
 }
 
 // Whether the names at two starts are the same.
