@@ -1,6 +1,8 @@
 // The rule for a variable's name: 1 to 31 bytes, each one marked in a table.
 ghost use mathlib.Core.Path.{_≡_};
-ghost use Rattle.names.specs.Name.{nameByte, nameCheck};
+ghost use Prim.Native.Nat.{_+_, _<_};
+ghost use lib.ListN.{drop};
+ghost use Rattle.names.specs.Name.{nameByte, allowedAhead, nameCheck};
 
 // What the check of a name finds.
 pub enum NameCheck {
@@ -270,6 +272,13 @@ const MARKS: [u8; 256] = [
     0, // 0xFF
 ];
 
+// A byte as an index.
+fn wide(b: u8) -> usize
+    ensures { λ r. ⌜ (r ≡ b) × (r < 256) ⌝ }
+{
+    b as usize
+}
+
 // Whether a name may hold the byte.
 pub fn name_byte(b: u8) -> bool
     ensures { λ r. ⌜ r ≡ nameByte b ⌝ }
@@ -278,21 +287,34 @@ pub fn name_byte(b: u8) -> bool
     MARKS[i] == 1
 }
 
+// The offset of the first byte from `from` on that a name may not hold, or the end.
+pub fn name_end(s: &[u8], from: usize) -> usize
+    ensures { λ r. ⌜ r ≡ from + allowedAhead (drop from (now (s .entry))) ⌝ }
+{
+    let marks = MARKS; // one copy of the table serves all bytes
+    let mut i = from;
+    while i < s.len() {
+        let b = wide(s[i]);
+        if marks[b] != 1 {
+            return i;
+        }
+        i += 1;
+    }
+    i
+}
+
 // Whether a name keeps the rule, and if not, where it breaks it first.
 pub fn check(name: &[u8]) -> NameCheck
     ensures { λ r. ⌜ r ≡ nameCheck (now (name .entry)) ⌝ }
 {
-    let mut i = 0;
-    while i < name.len() {
-        if i == 31 {
-            return NameCheck::Wrong { at: 31 };
-        }
-        if !name_byte(name[i]) {
-            return NameCheck::Wrong { at: i };
-        }
-        i += 1;
+    let end = name_end(name, 0);
+    if 31 < end {
+        return NameCheck::Wrong { at: 31 };
     }
-    if i == 0 {
+    if end < name.len() {
+        return NameCheck::Wrong { at: end };
+    }
+    if end == 0 {
         return NameCheck::Wrong { at: 0 };
     }
     NameCheck::Good
