@@ -9,8 +9,9 @@ use native.Mathlib.Omega.{arith}
 use lib.Dec.{eqb}
 use lib.ListN.{length, getD, drop, length-drop, drop-of-length-le}
 use borrow.Author.Tests.{lt-ltb, le-ltb, eq-eqb, ne-eqb, eqb-false}
-use Rattle.lists.proofs.Tests.{split}
-use Rattle.names.specs.Name.{nameByte}
+use Rattle.lists.proofs.Tests.{split, clash}
+use Rattle.names.specs.Name.{nameByte, allowedAhead}
+use Rattle.names.proofs.AheadLaws.{ahead-short, end-before, end-there}
 use Rattle.lists.proofs.ListLaws.{drop-next}
 use Rattle.lists.specs.Find.{untilEither}
 use Rattle.lists.proofs.FindLaws.{until-short, either-ahead, either-there, either-before}
@@ -26,46 +27,46 @@ end-and from at b (bad k) = refl
 end-and from at b short = refl
 
 -- the scan of a name that began at `from` has come to i
-pub record NameScan (area : List ℕ) (from i : ℕ) : Type 0 where
+record NameScan (area : List ℕ) (from i : ℕ) : Type 0 where
   pub low : from ≤ i
   pub left : endOf from from (scanName 0 (drop from area)) ≡ endOf from i (scanName (i - from) (drop i area))
 
-pub name-begun : (area : List ℕ) (from : ℕ) → NameScan area from from
+name-begun : (area : List ℕ) (from : ℕ) → NameScan area from from
 name-begun area from = record { low = omega arith; left = rw (sub-self from) }
 
 module _ {area : List ℕ} {from i : ℕ} (s : NameScan area from i) where
-  pub name-cut : length area ≤ i → Cut ≡ endOf from from (scanName 0 (drop from area))
+  name-cut : length area ≤ i → Cut ≡ endOf from from (scanName 0 (drop from area))
   unfolding scanName endOf
   name-cut h = sym (s .left ∙ rw (drop-of-length-le area h))
 
   module _ (h : i < length area) where
-    pub name-empty : getD area i 0 ≡ 61 → i ≡ from → Wrong i ≡ endOf from from (scanName 0 (drop from area))
+    name-empty : getD area i 0 ≡ 61 → i ≡ from → Wrong i ≡ endOf from from (scanName 0 (drop from area))
     unfolding scanName endOf
     name-empty b e =
         let z : i - from ≡ 0 = omega arith in
         let p : from + 0 ≡ i = omega arith in
         sym (s .left ∙ rw (drop-next area i h, eq-eqb (getD area i 0) 61 b, eq-eqb (i - from) 0 z, scanName) (ap Wrong p))
 
-    pub name-ends : getD area i 0 ≡ 61 → (i ≡ from → ⊥) → At i ≡ endOf from from (scanName 0 (drop from area))
+    name-ends : getD area i 0 ≡ 61 → (i ≡ from → ⊥) → At i ≡ endOf from from (scanName 0 (drop from area))
     unfolding scanName endOf
     name-ends b e =
         let p : i + 0 ≡ i = omega arith in
         let z : i - from ≡ 0 → ⊥ = λ q. e (omega (arith, s .low)) in
         sym (s .left ∙ rw (drop-next area i h, eq-eqb (getD area i 0) 61 b, ne-eqb (i - from) 0 z, scanName) (ap At p))
 
-    pub name-long : (getD area i 0 ≡ 61 → ⊥) → 31 ≤ i - from → Wrong i ≡ endOf from from (scanName 0 (drop from area))
+    name-long : (getD area i 0 ≡ 61 → ⊥) → 31 ≤ i - from → Wrong i ≡ endOf from from (scanName 0 (drop from area))
     unfolding scanName endOf
     name-long b e =
         let p : from + (i - from) ≡ i = omega (arith, s .low) in
         sym (s .left ∙ rw (drop-next area i h, ne-eqb (getD area i 0) 61 b, le-ltb (i - from) 31 e, and-false (nameByte (getD area i 0)), scanName) (ap Wrong p))
 
-    pub name-wrong : (getD area i 0 ≡ 61 → ⊥) → nameByte (getD area i 0) ≡ false → Wrong i ≡ endOf from from (scanName 0 (drop from area))
+    name-wrong : (getD area i 0 ≡ 61 → ⊥) → nameByte (getD area i 0) ≡ false → Wrong i ≡ endOf from from (scanName 0 (drop from area))
     unfolding scanName endOf
     name-wrong b e =
         let p : from + (i - from) ≡ i = omega (arith, s .low) in
         sym (s .left ∙ rw (drop-next area i h, ne-eqb (getD area i 0) 61 b, e, scanName) (ap Wrong p))
 
-    pub name-next : (getD area i 0 ≡ 61 → ⊥) → nameByte (getD area i 0) ≡ true → i - from < 31 → NameScan area from (i + 1)
+    name-next : (getD area i 0 ≡ 61 → ⊥) → nameByte (getD area i 0) ≡ true → i - from < 31 → NameScan area from (i + 1)
     unfolding scanName
     name-next b e k =
         let p : i - from + 1 ≡ i + 1 - from = omega (arith, s .low) in
@@ -76,6 +77,45 @@ module _ {area : List ℕ} {from i : ℕ} (s : NameScan area from i) where
               ∙ rw (drop-next area i h, ne-eqb (getD area i 0) 61 b, e, lt-ltb (i - from) 31 k, scanName)
               (end-and from i (getD area i 0) (scanName (i - from + 1) (drop (i + 1) area)) ∙ ap (λ (n : ℕ). endOf from (i + 1) (scanName n (drop (i + 1) area))) p);
         }
+
+-- a byte that a name may hold is not `=`
+not-equals : (b : ℕ) → nameByte b ≡ true → b ≡ 61 → ⊥
+unfolding nameByte
+not-equals b e h = clash (cc (e, ap nameByte h))
+
+-- allowed bytes, at most 31, are taken at once
+name-skip : (area : List ℕ) (from r : ℕ) → r ≡ from + allowedAhead (drop from area) → (n : ℕ) → from + n ≤ r → n ≤ 31 → NameScan area from (from + n)
+name-skip area from r e zero h l = let q : from ≡ from + 0 = omega arith in subst (λ (m : ℕ). NameScan area from m) q (name-begun area from)
+name-skip area from r e (suc n) h l =
+    let q : from + n + 1 ≡ from + suc n = omega arith in
+    let b : nameByte (getD area (from + n) 0) ≡ true = end-before area from e (from + n) (omega arith) (omega arith) in
+    let k : from + n < length area = omega (arith, ahead-short (drop from area), length-drop from area) in
+    subst (λ (m : ℕ). NameScan area from m) q
+    (name-next (name-skip area from r e n (omega arith) (omega arith)) k (not-equals (getD area (from + n) 0) b) b (omega arith))
+
+-- by the first byte r from `from` on that a name may not hold
+module _ (area : List ℕ) (from r : ℕ) (e : r ≡ from + allowedAhead (drop from area)) where
+  come : r - from ≤ 31 → NameScan area from r
+  come h = let q : from + (r - from) ≡ r = omega arith in subst (λ (m : ℕ). NameScan area from m) q (name-skip area from r e (r - from) (omega arith) h)
+
+  pub end-long : 31 < r - from → Wrong (from + 31) ≡ endOf from from (scanName 0 (drop from area))
+  end-long h =
+      let b : nameByte (getD area (from + 31) 0) ≡ true = end-before area from e (from + 31) (omega arith) (omega arith) in
+      name-long (name-skip area from r e 31 (omega arith) (omega arith)) (omega (arith, ahead-short (drop from area), length-drop from area))
+      (not-equals (getD area (from + 31) 0) b) (omega arith)
+
+  module _ (h : r - from ≤ 31) where
+    pub end-cut : length area ≤ r → Cut ≡ endOf from from (scanName 0 (drop from area))
+    end-cut k = name-cut (come h) k
+
+    pub end-wrong : r < length area → (getD area r 0 ≡ 61 → ⊥) → Wrong r ≡ endOf from from (scanName 0 (drop from area))
+    end-wrong k b = name-wrong (come h) k b (end-there area from e k)
+
+    pub end-empty : r < length area → getD area r 0 ≡ 61 → r ≡ from → Wrong r ≡ endOf from from (scanName 0 (drop from area))
+    end-empty k b z = name-empty (come h) k b z
+
+    pub end-name : r < length area → getD area r 0 ≡ 61 → (r ≡ from → ⊥) → At r ≡ endOf from from (scanName 0 (drop from area))
+    end-name k b z = name-ends (come h) k b z
 
 -- the scan of a value that began at `from` has come to i
 pub record ValueScan (area : List ℕ) (from : ℕ) (after : Bool) (i : ℕ) : Type 0 where

@@ -84,24 +84,20 @@ pub enum ReadAnswer {
 fn scan_name(area: &[u8], from: usize) -> ScanEnd
     ensures { λ r. ⌜ r ≡ endOf from from (scanName 0 (drop from (now (area .entry)))) ⌝ }
 {
-    let mut i = from;
-    while i < area.len() {
-        let b = area[i];
-        if b == b'=' {
-            if i == from {
-                return ScanEnd::Wrong(i);
-            }
-            return ScanEnd::At(i);
-        }
-        if 31 <= i - from {
-            return ScanEnd::Wrong(i);
-        }
-        if !names::name_byte(b) {
-            return ScanEnd::Wrong(i);
-        }
-        i += 1;
+    let end = names::name_end(area, from);
+    if 31 < end - from {
+        return ScanEnd::Wrong(from + 31);
     }
-    ScanEnd::Cut
+    if area.len() <= end {
+        return ScanEnd::Cut;
+    }
+    if area[end] != b'=' {
+        return ScanEnd::Wrong(end);
+    }
+    if end == from {
+        return ScanEnd::Wrong(end);
+    }
+    ScanEnd::At(end)
 }
 
 // Scans a stored value up to its 0x00.

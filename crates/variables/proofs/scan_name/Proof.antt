@@ -1,74 +1,46 @@
--- `variables::scan_name` meets its contract. The invariant: what is left of the scan gives its end.
-use Prim.Native.Nat.{_-_}
-use mathlib.Core.Path.{sym, _∙_}
-use lib.ListN.{length}
+-- `variables::scan_name` meets its contract, by the first byte that a name may not hold.
+use Rattle.variables.proofs.ScanPlaces.{end-long, end-cut, end-wrong, end-empty, end-name}
 use borrow.Author.Needs.{needs}
-use borrow.Author.Tests.{not-true, not-false}
-use Rattle.variables.proofs.ScanPlaces.{NameScan, name-begun, name-cut, name-empty, name-ends, name-long, name-wrong, name-next}
 use Rattle.variables.proofs.scan_name.Statement.{statement}
 use Rattle.variables.proofs.scan_name.Tie as tie
 
-abbrev Inv-loop : tie.InvT-loop
-Inv-loop area from i₀ i = NameScan area from i
+name-end-requires : tie.Need-name-end-requires
+name-end-requires c κs = search needs
 
-abbrev μ-loop : tie.MeasureT-loop
-μ-loop area from i₀ i = length area - i
+sub-if1 : tie.Need-sub-if1
+sub-if1 c = search needs
 
-loop-holds : tie.Need-loop-holds Inv-loop μ-loop
-loop-holds c = name-begun _ _
+add-t6 : tie.Need-add-t6
+add-t6 c = search needs
 
-shared-slice-read-b : tie.Need-shared-slice-read-b Inv-loop μ-loop
-shared-slice-read-b c = search needs
+returns : tie.Need-returns
+returns c = end-long _ _ _ (c .before .name-end .ensures) (search needs)
 
-returns : tie.Need-returns Inv-loop μ-loop
-returns c = name-empty (c .before .before .before .before .loop .inv) (search needs) (c .before .if1 .taken) (c .if2 .taken)
+returns-2 : tie.Need-returns-2
+returns-2 c = end-cut _ _ _ (c .before .before .name-end .ensures) (search needs) (search needs)
 
-returns-2 : tie.Need-returns-2 Inv-loop μ-loop
-returns-2 c = name-ends (c .before .before .before .before .loop .inv) (search needs) (c .before .if1 .taken) (c .if2 .left)
+shared-slice-read-if3 : tie.Need-shared-slice-read-if3
+shared-slice-read-if3 c = search needs
 
-sub-if3 : tie.Need-sub-if3 Inv-loop μ-loop
-sub-if3 c = c .before .before .before .loop .inv .low
+returns-3 : tie.Need-returns-3
+returns-3 c = end-wrong _ _ _ (c .before .before .before .before .name-end .ensures) (search needs) (search needs) (c .if3 .taken)
 
-returns-3 : tie.Need-returns-3 Inv-loop μ-loop
-returns-3 c = name-long (c .before .before .before .before .loop .inv) (search needs) (c .before .if1 .left) (c .if3 .taken)
+returns-4 : tie.Need-returns-4
+returns-4 c = end-empty _ _ _ (c .before .before .before .before .before .name-end .ensures) (search needs) (search needs) (c .before .if3 .left) (c .if4 .taken)
 
-name-byte-requires : tie.Need-name-byte-requires Inv-loop μ-loop
-name-byte-requires c κs = search needs
-
-returns-4 : tie.Need-returns-4 Inv-loop μ-loop
-returns-4 c =
-    name-wrong (c .before .before .before .before .before .before .loop .inv) (search needs) (c .before .before .before .if1 .left)
-    (sym (c .before .name-byte .ensures) ∙ not-true _ (c .if4 .taken))
-
-add-i : tie.Need-add-i Inv-loop μ-loop
-add-i c = search needs
-
-loop-less : tie.Need-loop-less Inv-loop μ-loop
-loop-less c = search needs
-
-loop-again : tie.Need-loop-again Inv-loop μ-loop
-loop-again c =
-    name-next (c .before .before .before .before .before .before .loop .inv) (search needs) (c .before .before .before .if1 .left)
-    (sym (c .before .name-byte .ensures) ∙ not-false _ (c .if4 .left)) (search needs)
-
-returns-5 : tie.Need-returns-5 Inv-loop μ-loop
-returns-5 c = name-cut (c .before .loop .inv) (search needs)
+returns-5 : tie.Need-returns-5
+returns-5 c = end-name _ _ _ (c .before .before .before .before .before .name-end .ensures) (search needs) (search needs) (c .before .if3 .left) (c .if4 .left)
 
 pub scan-name-spec : {M : Type 1} → statement M
 scan-name-spec =
     tie.close
     (tie.spec
-    Inv-loop
-    μ-loop
-    loop-holds
-    shared-slice-read-b
+    name-end-requires
+    sub-if1
+    add-t6
     returns
     returns-2
-    sub-if3
+    shared-slice-read-if3
     returns-3
-    name-byte-requires
     returns-4
-    add-i
-    loop-less
-    loop-again
     returns-5)
