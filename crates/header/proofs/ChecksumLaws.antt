@@ -1,11 +1,13 @@
 -- The closed form of the checksum, for all bytes.
-use Prim.Native.Nat.{ℕ, zero, suc, _+_, _-_, _%_, _≤_, _<_}
+use Prim.Native.Nat.{ℕ, zero, suc, _+_, _-_, _/_, _%_, _≤_, _<_}
 use mathlib.Core.Path.{_≡_, ap, refl, sym, _∙_}
 use mathlib.Core.List.{List, [], _∷_}
 use native.Mathlib.Omega.{arith}
 use native.Mathlib.Decide.{decLe}
 use borrow.Author.Tests.{le-leb, lt-leb}
 use Rattle.lists.specs.Bytes.{AllBytes}
+use Rattle.header.specs.declared.Header.{Header}
+use Rattle.header.specs.Header.{covered}
 use Rattle.header.specs.Checksum.{addCarry, sumFrom, sumcheck, sum, closedForm}
 
 -- one byte more, by whether a carry leaves the byte
@@ -34,3 +36,20 @@ sum-closed s (b ∷ bs) a =
 pub closed-form : (bs : List ℕ) → AllBytes bs → sumcheck bs ≡ closedForm (sum bs)
 unfolding closedForm
 closed-form bs a = let e : 0 + sum bs ≡ sum bs = omega arith in sum-closed 0 bs a ∙ ap closedForm e
+
+pub closed-zero : (s : ℕ) → s ≡ 0 → 0 ≡ closedForm s
+unfolding closedForm
+closed-zero s z = sym (ap closedForm z)
+
+pub closed-positive : (s : ℕ) → (s ≡ 0 → ⊥) → (s - 1) % 255 + 1 ≡ closedForm s
+unfolding closedForm
+closed-positive zero z = absurd (z refl)
+closed-positive (suc m) z = omega arith
+
+-- the closed form of the plain sum of a header's fields
+pub sum-covered : (h : Header) → h .signature < 256 → AllBytes (h .name) → (n s r : ℕ) → n ≡ sum (h .name) → s ≡ h .signature
+    → r ≡ closedForm (n + s + h .length .0 / 256 % 256 + h .length .0 % 256) → r ≡ sumcheck (covered h)
+unfolding sum
+sum-covered h l a n s r en es er =
+    let e : n + s + h .length .0 / 256 % 256 + h .length .0 % 256 ≡ sum (covered h) = omega arith in
+    er ∙ ap closedForm e ∙ sym (closed-form (covered h) (l, (omega arith, (omega arith, a))))

@@ -4,20 +4,22 @@ use mathlib.Core.Path.{_≡_, ap, refl, sym, _∙_}
 use mathlib.Core.Logic.{_≢_, _↔_}
 use mathlib.Core.List.{List, [], _∷_}
 use native.Mathlib.Omega.{arith}
-use lib.ListN.{length}
+use lib.ListN.{length, take, drop}
 use native.Mathlib.Decide.{decLe, ℕ-discrete}
 use Rattle.lists.specs.Bytes.{AllBytes}
 use Rattle.lists.proofs.Tests.{clash}
 use Rattle.lists.proofs.ByteLaws.{every-get}
+use Rattle.header.specs.declared.Blocks.{Blocks}
 use Rattle.header.specs.declared.Error.{Error}
 use Rattle.header.specs.declared.Error.the-variants.{ZeroLength, PastEnd, Checksum, ZeroChecksum}
 use Rattle.header.specs.declared.Validity.{Validity}
 use Rattle.header.specs.declared.Validity.the-variants.{Valid, Invalid}
 use Rattle.header.specs.Checksum.{sum, sumcheck, closedForm}
-use Rattle.header.specs.Header.{byteAt, nameAt, headerAt, bytesOf, covered, validityOf, validityAt}
+use Rattle.header.specs.Header.{byteAt, nameAt, headerAt, bytesOf, covered, firstBroken, validityOf, validityAt}
 use Rattle.header.specs.Rules.{blocksAt, checksumAt, Sound, Breaks, two, three, four, five}
-use Rattle.header.proofs.ChecksumLaws.{closed-form}
-use Rattle.header.proofs.ValidityLaws.{zero-length, past-end, checksum-differs, checksum-zero, no-rule-broken}
+use Rattle.header.proofs.SumLaws.{name-sum}
+use Rattle.header.proofs.ChecksumLaws.{closed-form, sum-covered}
+use Rattle.header.proofs.ValidityLaws.{zero-length, past-end, checksum-differs, checksum-zero, no-rule-broken, cut-off}
 
 module _ (image : List ℕ) (at : ℕ) where
   pub blocks-read : headerAt image at .length .0 ≡ blocksAt image at
@@ -35,6 +37,18 @@ module _ (image : List ℕ) (at : ℕ) where
   pub name-read : headerAt image at .name ≡ nameAt image at
   unfolding headerAt
   name-read = refl
+
+  -- the first broken rule, by what the code has read
+  module _ (b : Blocks) (eb : b ≡ headerAt image at .length) (room : ℕ) (er : room ≡ length image - at) (r : Validity) where
+    pub cut-read : room < 16 → r ≡ firstBroken b 0 0 at room → r ≡ validityAt image at
+    unfolding validityAt validityOf
+    cut-read l e =
+        let h = headerAt image at in
+        e ∙ cut-off b 0 0 (h .checksum) (sumcheck (covered h)) at room l ∙ (λ i. firstBroken (eb i) (h .checksum) (sumcheck (covered h)) at (er i))
+
+    pub whole-read : (s : ℕ) → s ≡ sumcheck (covered (headerAt image at)) → r ≡ firstBroken b (byteAt image at 1) s at room → r ≡ validityAt image at
+    unfolding validityAt validityOf
+    whole-read s es e = e ∙ (λ i. firstBroken (eb i) (sym checksum-read i) (es i) at (er i))
 
   module _ (bytes : AllBytes image) where
     byte : (k : ℕ) → byteAt image at k < 256
@@ -58,6 +72,15 @@ module _ (image : List ℕ) (at : ℕ) where
     unfolding checksumAt
     sum-read = ap sumcheck covered-read ∙ closed-form _ (byte 0, (byte 2, (byte 3, name-bytes)))
 
+    -- the same of what the code has read of a whole header
+    pub checksum-whole : at + 16 ≤ length image → (n s r : ℕ) (l : Blocks) → n ≡ sum (take (at + 16 - (at + 4)) (drop (at + 4) image))
+        → s ≡ headerAt image at .signature → l ≡ headerAt image at .length → r ≡ closedForm (n + s + l .0 / 256 % 256 + l .0 % 256)
+        → r ≡ sumcheck (covered (headerAt image at))
+    unfolding headerAt
+    checksum-whole h n s r l en es el er =
+        sum-covered (headerAt image at) (byte 0) name-bytes n s r (en ∙ name-sum image at h) es
+        (er ∙ (λ i. closedForm (n + s + el i .0 / 256 % 256 + el i .0 % 256)))
+
     module _ (z : blocksAt image at ≢ 0) where
       nonzero : headerAt image at .length .0 ≢ 0
       nonzero e = z (sym blocks-read ∙ e)
@@ -67,21 +90,29 @@ module _ (image : List ℕ) (at : ℕ) where
         fits = let p : headerAt image at .length .0 * 16 ≤ length image - at = omega (arith, blocks-read) in p
 
     pub breaks-invalid : {e : Error} → Breaks image at e → validityAt image at ≡ Invalid e
-    unfolding validityAt
-    breaks-invalid (two z) = sym (zero-length _ at _ (blocks-read ∙ z))
+    unfolding validityAt validityOf
+    breaks-invalid (two z) =
+        let h = headerAt image at in
+        sym (zero-length (h .length) (h .checksum) (sumcheck (covered h)) at (length image - at) (blocks-read ∙ z))
     breaks-invalid (three z p) =
+        let h = headerAt image at in
         let q : length image - at < headerAt image at .length .0 * 16 = omega (arith, blocks-read) in
-        sym (past-end _ at _ (nonzero z) (bytesOf (headerAt image at .length)) refl q)
+        sym (past-end (h .length) (h .checksum) (sumcheck (covered h)) at (length image - at) (nonzero z) (bytesOf (h .length)) refl q)
     breaks-invalid (four z f a) =
-        sym (checksum-differs _ at _ (nonzero z) (bytesOf (headerAt image at .length)) refl (fits z f) _ (sym sum-read) (λ e. a (sym checksum-read ∙ e)))
+        let h = headerAt image at in
+        sym (checksum-differs (h .length) (h .checksum) (sumcheck (covered h)) at (length image - at) (nonzero z) (bytesOf (h .length)) refl (fits z f)
+        (λ e. a (sym checksum-read ∙ e ∙ sum-read)))
     breaks-invalid (five z f a m) =
-        sym (checksum-zero _ at _ (nonzero z) (bytesOf (headerAt image at .length)) refl (fits z f) _ (sym sum-read) (checksum-read ∙ a) (sym a ∙ m))
+        let h = headerAt image at in
+        sym (checksum-zero (h .length) (h .checksum) (sumcheck (covered h)) at (length image - at) (nonzero z) (bytesOf (h .length)) refl (fits z f)
+        (checksum-read ∙ a ∙ sym sum-read) (sum-read ∙ sym a ∙ m))
 
     pub sound-valid : Sound image at → validityAt image at ≡ Valid
-    unfolding validityAt
+    unfolding validityAt validityOf
     sound-valid s =
-        sym (no-rule-broken _ at _ (nonzero (s .nonzero)) (bytesOf (headerAt image at .length)) refl (fits (s .nonzero) (s .inside)) _ (sym sum-read)
-        (checksum-read ∙ s .agrees) (λ e. s .marked (s .agrees ∙ e)))
+        let h = headerAt image at in
+        sym (no-rule-broken (h .length) (h .checksum) (sumcheck (covered h)) at (length image - at) (nonzero (s .nonzero)) (bytesOf (h .length)) refl
+        (fits (s .nonzero) (s .inside)) (checksum-read ∙ s .agrees ∙ sym sum-read) (λ e. s .marked (s .agrees ∙ sym sum-read ∙ e)))
 
     -- what the rules say of the header at an offset
     data Judged : Validity → Type 0 where

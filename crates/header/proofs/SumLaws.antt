@@ -1,16 +1,37 @@
--- Laws of the checksum over a list that is passed from the front.
-use Prim.Native.Nat.{ℕ, suc, _+_, _≤_, _<_}
-use mathlib.Core.Path.{_≡_, refl}
+-- Laws of the plain sum: over a list that is passed from the front, and of the name in an image.
+use Prim.Native.Nat.{ℕ, zero, suc, _+_, _-_, _≤_, _<_}
+use mathlib.Core.Path.{_≡_, ap, refl, sym, _∙_}
 use mathlib.Core.List.{List, [], _∷_}
+use native.Mathlib.Omega.{arith}
 use native.Mathlib.Numerals.{add-one}
-use lib.ListN.{length, drop, getD, drop-of-length-le}
+use lib.ListN.{length, take, drop, getD, drop-of-length-le}
 use lib.Seq.{drop-cons}
-use Rattle.header.specs.Checksum.{addCarry, sumFrom}
+use Rattle.header.specs.Checksum.{sum}
+use Rattle.header.specs.Header.{byteAt, nameAt}
 
-pub sum-step : (s : ℕ) (l : List ℕ) (i : ℕ) → i < length l → sumFrom s (drop i l) ≡ sumFrom (addCarry s (getD l i 0)) (drop (i + 1) l)
-unfolding sumFrom
-sum-step s l i h = rw (add-one, drop-cons l i 0)
+pub sum-step : (l : List ℕ) (i : ℕ) → i < length l → sum (drop i l) ≡ getD l i 0 + sum (drop (i + 1) l)
+unfolding sum
+sum-step l i h = rw (add-one, drop-cons l i 0)
 
-pub sum-end : (s : ℕ) (l : List ℕ) (i : ℕ) → length l ≤ i → sumFrom s (drop i l) ≡ s
-unfolding sumFrom
-sum-end s l i h = rw (drop-of-length-le l h)
+pub sum-end : (l : List ℕ) (i : ℕ) → length l ≤ i → sum (drop i l) ≡ 0
+unfolding sum
+sum-end l i h = rw (drop-of-length-le l h)
+
+-- the n bytes from k places after an offset
+abbrev bytesFrom : List ℕ → ℕ → ℕ → ℕ → List ℕ
+bytesFrom image at k zero = []
+bytesFrom image at k (suc n) = byteAt image at k ∷ bytesFrom image at (suc k) n
+
+part-bytes : (image : List ℕ) (at k n : ℕ) → at + k + n ≤ length image → take n (drop (at + k) image) ≡ bytesFrom image at k n
+part-bytes image at k zero h = refl
+part-bytes image at k (suc n) h =
+    let e : suc (at + k) ≡ at + suc k = omega arith in
+    ap (take (suc n)) (drop-cons image (at + k) 0 (omega arith))
+    ∙ ap (λ (l : List ℕ). byteAt image at k ∷ l) (ap (λ (m : ℕ). take n (drop m image)) e ∙ part-bytes image at (suc k) n (omega arith))
+
+-- the twelve bytes of the name in a whole header
+pub name-sum : (image : List ℕ) (at : ℕ) → at + 16 ≤ length image → sum (take (at + 16 - (at + 4)) (drop (at + 4) image)) ≡ sum (nameAt image at)
+unfolding nameAt
+name-sum image at h =
+    let n : at + 16 - (at + 4) ≡ 12 = omega arith in
+    (λ i. sum (take (n i) (drop (at + 4) image))) ∙ ap sum (part-bytes image at 4 12 (omega arith))

@@ -1,10 +1,11 @@
 -- What `validityOf` and `newHeader` answer, by the tests that the code makes.
-use Prim.Native.Nat.{ℕ, _≤_, _<_}
+use Prim.Native.Nat.{ℕ, _*_, _≤_, _<_}
 use mathlib.Core.Path.{_≡_, subst, refl, sym, _∙_}
 use mathlib.Core.Bool.{Bool, true, false, not, _&&_}
 use mathlib.Core.Logic.{_≢_}
 use mathlib.Core.List.{List}
 use native.Mathlib.Omega.{arith}
+use native.Mathlib.Decide.{ℕ-discrete}
 use lib.Dec.{leb, ltb, eqb}
 use borrow.Author.Tests.{eq-eqb, ne-eqb, lt-ltb, le-ltb, le-leb, lt-leb, eqb-true, eqb-false, ltb-false}
 use Rattle.lists.proofs.Tests.{clash}
@@ -12,39 +13,51 @@ use Rattle.header.specs.declared.Blocks.{Blocks}
 use Rattle.header.specs.declared.Bytes.{Bytes}
 use Rattle.header.specs.declared.Header.{Header}
 use Rattle.header.specs.declared.NewHeader.{NewHeader}
+use Rattle.header.specs.declared.Validity.{Validity}
 use Rattle.header.specs.declared.Validity.the-variants.{Valid, Invalid}
 use Rattle.header.specs.declared.Error.{Error}
 use Rattle.header.specs.declared.Error.the-variants.{ZeroLength, PastEnd, Checksum, ZeroChecksum}
 use Rattle.header.specs.Checksum.{sumcheck}
-use Rattle.header.specs.Header.{bytesOf, covered, newHeader, pickValidity, validityOf}
+use Rattle.header.specs.Header.{bytesOf, covered, newHeader, pickValidity, firstBroken, validityOf}
 
-module _ (h : Header) (at room : ℕ) where
-  pub zero-length : h .length .0 ≡ 0 → Invalid (ZeroLength at) ≡ validityOf h at room
-  unfolding validityOf
+module _ (blocks : Blocks) (stored computed at room : ℕ) where
+  pub zero-length : blocks .0 ≡ 0 → Invalid (ZeroLength at) ≡ firstBroken blocks stored computed at room
   zero-length z = rw (eq-eqb _ _ z)
 
-  module _ (z : h .length .0 ≡ 0 → ⊥) (b : Bytes) (eb : b ≡ bytesOf (h .length)) where
-    pub past-end : room < b .0 → Invalid (PastEnd at) ≡ validityOf h at room
-    unfolding validityOf
+  module _ (z : blocks .0 ≡ 0 → ⊥) (b : Bytes) (eb : b ≡ bytesOf blocks) where
+    pub past-end : room < b .0 → Invalid (PastEnd at) ≡ firstBroken blocks stored computed at room
     past-end p =
-        let q : room < bytesOf (h .length) .0 = subst (λ (x : Bytes). room < x .0) eb p in
+        let q : room < bytesOf blocks .0 = subst (λ (x : Bytes). room < x .0) eb p in
         rw (ne-eqb _ _ z, lt-ltb _ _ q)
 
-    module _ (p : b .0 ≤ room) (s : ℕ) (es : s ≡ sumcheck (covered h)) where
-      fits : bytesOf (h .length) .0 ≤ room
+    module _ (p : b .0 ≤ room) where
+      fits : bytesOf blocks .0 ≤ room
       fits = subst (λ (x : Bytes). x .0 ≤ room) eb p
 
-      pub checksum-differs : (h .checksum ≡ s → ⊥) → Invalid (Checksum at) ≡ validityOf h at room
-      unfolding validityOf
-      checksum-differs d = rw (ne-eqb _ _ z, le-ltb _ _ fits, ← es, ne-eqb _ _ d)
+      pub checksum-differs : (stored ≡ computed → ⊥) → Invalid (Checksum at) ≡ firstBroken blocks stored computed at room
+      checksum-differs d = rw (ne-eqb _ _ z, le-ltb _ _ fits, ne-eqb _ _ d)
 
-      pub checksum-zero : h .checksum ≡ s → s ≡ 0 → Invalid (ZeroChecksum at) ≡ validityOf h at room
-      unfolding validityOf
-      checksum-zero a n = rw (ne-eqb _ _ z, le-ltb _ _ fits, ← es, eq-eqb _ _ a, eq-eqb _ _ n)
+      pub checksum-zero : stored ≡ computed → computed ≡ 0 → Invalid (ZeroChecksum at) ≡ firstBroken blocks stored computed at room
+      checksum-zero a n = rw (ne-eqb _ _ z, le-ltb _ _ fits, eq-eqb _ _ a, eq-eqb _ _ n)
 
-      pub no-rule-broken : h .checksum ≡ s → (s ≡ 0 → ⊥) → Valid ≡ validityOf h at room
-      unfolding validityOf
-      no-rule-broken a n = rw (ne-eqb _ _ z, le-ltb _ _ fits, ← es, eq-eqb _ _ a, ne-eqb _ _ n)
+      pub no-rule-broken : stored ≡ computed → (computed ≡ 0 → ⊥) → Valid ≡ firstBroken blocks stored computed at room
+      no-rule-broken a n = rw (ne-eqb _ _ z, le-ltb _ _ fits, eq-eqb _ _ a, ne-eqb _ _ n)
+
+-- the rules of a header, by its checksum that was computed
+pub check-read : (h : Header) (at room s : ℕ) (r : Validity) → s ≡ sumcheck (covered h) → r ≡ firstBroken (h .length) (h .checksum) s at room
+    → r ≡ validityOf h at room
+unfolding validityOf
+check-read h at room s r es e = e ∙ (λ i. firstBroken (h .length) (h .checksum) (es i) at room)
+
+-- a header that is cut off breaks 2 or 3, whatever its checksum
+pub cut-off : (blocks : Blocks) (s c t d at room : ℕ) → room < 16 → firstBroken blocks s c at room ≡ firstBroken blocks t d at room
+cut-off blocks s c t d at room h = go (ℕ-discrete (blocks .0) 0)
+  where
+    go : Dec (blocks .0 ≡ 0) → firstBroken blocks s c at room ≡ firstBroken blocks t d at room
+    go (yes z) = sym (zero-length blocks s c at room z) ∙ zero-length blocks t d at room z
+    go (no z) =
+        let q : room < blocks .0 * 16 = omega arith in
+        sym (past-end blocks s c at room z (bytesOf blocks) refl q) ∙ past-end blocks t d at room z (bytesOf blocks) refl q
 
 -- a header made of its fields, where its checksum and the test of its length are right
 module _ (signature : ℕ) (blocks : Blocks) (name : List ℕ) (s : ℕ)

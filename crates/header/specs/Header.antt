@@ -61,14 +61,18 @@ abbrev pub pickValidity : Bool → Validity → Validity → Validity
 pickValidity true a b = a
 pickValidity false a b = b
 
--- the first rule that a header breaks, where it stands at an offset with so many bytes of the image left
-unfoldable pub validityOf : Header → ℕ → ℕ → Validity
-validityOf h at room =
-    pickValidity (eqb (h .length .0) 0) (Invalid (ZeroLength at))
-    (pickValidity (ltb room (bytesOf (h .length) .0)) (Invalid (PastEnd at))
-    (pickValidity (not (eqb (h .checksum) (sumcheck (covered h)))) (Invalid (Checksum at))
-    (pickValidity (eqb (sumcheck (covered h)) 0) (Invalid (ZeroChecksum at))
+-- the first rule broken by a length, a stored and a computed checksum, at an offset with so many bytes of the image left
+abbrev pub firstBroken : Blocks → ℕ → ℕ → ℕ → ℕ → Validity
+firstBroken blocks stored computed at room =
+    pickValidity (eqb (blocks .0) 0) (Invalid (ZeroLength at))
+    (pickValidity (ltb room (bytesOf blocks .0)) (Invalid (PastEnd at))
+    (pickValidity (not (eqb stored computed)) (Invalid (Checksum at))
+    (pickValidity (eqb computed 0) (Invalid (ZeroChecksum at))
     Valid)))
+
+-- the first rule that a header breaks, where it stands there
+unfoldable pub validityOf : Header → ℕ → ℕ → Validity
+validityOf h at room = firstBroken (h .length) (h .checksum) (sumcheck (covered h)) at room
 
 -- the first rule that the header at an offset of an image breaks
 unfoldable pub validityAt : List ℕ → ℕ → Validity

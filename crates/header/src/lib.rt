@@ -1,8 +1,11 @@
 // The header of a partition, its checksum and its rules, and the errors of every call.
 ghost use mathlib.Core.Path.{_≡_};
-ghost use Rattle.header.specs.Checksum.{addCarry, sumFrom, sumcheck};
+ghost use Prim.Native.Nat.{_+_, _/_, _%_, _≤_};
+ghost use lib.ListN.{length as len};
+ghost use Rattle.lists.specs.Bytes.{AllBytes};
+ghost use Rattle.header.specs.Checksum.{sum, sumcheck, closedForm};
 ghost use Rattle.header.specs.Errors.{codeOf, offsetOf};
-ghost use Rattle.header.specs.Header.{bytesOf, byteAt, headerAt, covered, newHeader, validityOf};
+ghost use Rattle.header.specs.Header.{bytesOf, byteAt, headerAt, covered, newHeader, firstBroken, validityOf, validityAt};
 
 // A refused call: one case for each number of the table, with the offset where the table gives one.
 pub enum Error {
@@ -167,8 +170,6 @@ impl Header {
     pub fn read(image: &[u8], at: usize) -> Self
         ensures { λ r. ⌜ r ≡ headerAt (now (image .entry)) at ⌝ }
     {
-        let high = byte(image, at, 2) as u32;
-        let low = byte(image, at, 3) as u32;
         let name = [
             byte(image, at, 4),
             byte(image, at, 5),
@@ -184,11 +185,44 @@ impl Header {
             byte(image, at, 15),
         ];
         Header {
-            signature: byte(image, at, 0),
+            signature: Header::signature_at(image, at),
             checksum: byte(image, at, 1),
-            length: Blocks(high * 256 + low),
+            length: Header::length_at(image, at),
             name,
         }
+    }
+
+    // The signature of the header at an offset.
+    pub fn signature_at(image: &[u8], at: usize) -> u8
+        ensures { λ r. ⌜ r ≡ headerAt (now (image .entry)) at .signature ⌝ }
+    {
+        byte(image, at, 0)
+    }
+
+    // The length of the header at an offset.
+    pub fn length_at(image: &[u8], at: usize) -> Blocks
+        ensures { λ r. ⌜ r ≡ headerAt (now (image .entry)) at .length ⌝ }
+    {
+        let high = byte(image, at, 2) as u32;
+        let low = byte(image, at, 3) as u32;
+        Blocks(high * 256 + low)
+    }
+
+    // The first rule that the header at an offset breaks; one that is cut off breaks 2 or 3, whatever its checksum.
+    pub fn check_at(image: &[u8], at: usize) -> Validity
+        ensures { λ r. ⌜ r ≡ validityAt (now (image .entry)) at ⌝ }
+    {
+        let n = image.len();
+        if n <= at {
+            return first_broken(Header::length_at(image, at), 0, 0, at, 0);
+        }
+        let room = n - at;
+        if room < Header::SIZE {
+            return first_broken(Header::length_at(image, at), 0, 0, at, room);
+        }
+        let length = Header::length_at(image, at);
+        let computed = checksum_at(image, at);
+        first_broken(length, image[at + 1], computed, at, room)
     }
 
     // The checksum of the 15 bytes of signature, length and name.
@@ -196,34 +230,41 @@ impl Header {
         ensures { λ r. ⌜ r ≡ sumcheck (covered self) ⌝ }
     {
         let name = self.name;
-        let length = self.length.0;
-        let mut sum = add_carry(0, self.signature);
-        sum = add_carry(sum, (length / 256 % 256) as u8);
-        sum = add_carry(sum, (length % 256) as u8);
-        sum_name(sum, &name)
+        checksum_of(self.signature, self.length, sum_name(&name))
     }
 
-    // The first rule that the header breaks, in the order 2, 3, 4, 5, where it stands at an offset with so many bytes of the image left.
+    // The first rule that the header breaks, where it stands at an offset with so many bytes of the image left.
     pub fn check(self, at: usize, room: usize) -> Validity
         ensures { λ r. ⌜ r ≡ validityOf self at room ⌝ }
     {
-        let length = self.length.0;
-        if length == 0 {
-            return Validity::Invalid(Error::ZeroLength { at });
-        }
-        let bytes = self.length.bytes();
-        if room < bytes.0 {
-            return Validity::Invalid(Error::PastEnd { at });
-        }
-        let computed = self.computed_checksum();
-        if self.checksum != computed {
-            return Validity::Invalid(Error::Checksum { at });
-        }
-        if computed == 0 {
-            return Validity::Invalid(Error::ZeroChecksum { at });
-        }
-        Validity::Valid
+        first_broken(
+            self.length,
+            self.checksum,
+            self.computed_checksum(),
+            at,
+            room,
+        )
     }
+}
+
+// The first broken rule in the order 2, 3, 4, 5.
+fn first_broken(blocks: Blocks, stored: u8, computed: u8, at: usize, room: usize) -> Validity
+    ensures { λ r. ⌜ r ≡ firstBroken blocks stored computed at room ⌝ }
+{
+    if blocks.0 == 0 {
+        return Validity::Invalid(Error::ZeroLength { at });
+    }
+    let bytes = blocks.bytes();
+    if room < bytes.0 {
+        return Validity::Invalid(Error::PastEnd { at });
+    }
+    if stored != computed {
+        return Validity::Invalid(Error::Checksum { at });
+    }
+    if computed == 0 {
+        return Validity::Invalid(Error::ZeroChecksum { at });
+    }
+    Validity::Valid
 }
 
 // The byte k places after an offset, 0 past the image's end.
@@ -239,30 +280,62 @@ fn byte(image: &[u8], at: usize, k: usize) -> u8
     0
 }
 
-// One byte more in a checksum: 1 is added where a carry leaves the byte.
-fn add_carry(sum: u8, b: u8) -> u8
-    ensures { λ r. ⌜ r ≡ addCarry sum b ⌝ }
+// A byte as a term of a sum.
+fn wide(b: u8) -> u32
+    ensures { λ r. ⌜ r ≡ b ⌝ }
 {
-    let s = sum as u16 + b as u16;
-    if 256 <= s { (s - 255) as u8 } else { s as u8 }
+    b as u32
 }
 
-// The checksum goes on over some bytes.
-fn sum_bytes(start: u8, bytes: &[u8]) -> u8
-    ensures { λ r. ⌜ r ≡ sumFrom start (now (bytes .entry)) ⌝ }
+// The plain sum of at most 16 bytes.
+fn sum_bytes(bytes: &[u8]) -> u32
+    requires { ⌜ len (now bytes) ≤ 16 ⌝ }
+    ensures { λ r. ⌜ (r ≡ sum (now (bytes .entry))) × (r ≤ 4080) × AllBytes (now (bytes .entry)) ⌝ }
 {
-    let mut sum = start;
+    let mut total: u32 = 0;
     let mut i = 0;
     while i < bytes.len() {
-        sum = add_carry(sum, bytes[i]);
+        total += wide(bytes[i]);
         i += 1;
     }
-    sum
+    total
 }
 
-// The checksum goes on over a name.
-fn sum_name(start: u8, name: &[u8; 12]) -> u8
-    ensures { λ r. ⌜ r ≡ sumFrom start (now (name .entry)) ⌝ }
+// The plain sum of a name.
+fn sum_name(name: &[u8; 12]) -> u32
+    ensures { λ r. ⌜ (r ≡ sum (now (name .entry))) × (r ≤ 4080) × AllBytes (now (name .entry)) ⌝ }
 {
-    sum_bytes(start, name)
+    sum_bytes(name)
+}
+
+// The checksum of bytes that have this plain sum.
+fn folded(sum: u32) -> u8
+    ensures { λ r. ⌜ r ≡ closedForm sum ⌝ }
+{
+    if sum == 0 {
+        0
+    } else {
+        ((sum - 1) % 255 + 1) as u8
+    }
+}
+
+// The checksum of a signature, a length and a name whose bytes have this plain sum.
+fn checksum_of(signature: u8, length: Blocks, name: u32) -> u8
+    requires { ⌜ name ≤ 4080 ⌝ }
+    ensures { λ r. ⌜ r ≡ closedForm (name + signature + length .0 / 256 % 256 + length .0 % 256) ⌝ }
+{
+    let blocks = length.0;
+    folded(name + wide(signature) + blocks / 256 % 256 + blocks % 256)
+}
+
+// The checksum that is right for a whole header at an offset.
+fn checksum_at(image: &[u8], at: usize) -> u8
+    requires { ⌜ at + 16 ≤ len (now image) ⌝ }
+    ensures { λ r. ⌜ r ≡ sumcheck (covered (headerAt (now (image .entry)) at)) ⌝ }
+{
+    let start = at + 4;
+    let end = at + Header::SIZE;
+    let name = sum_bytes(&image[start..end]);
+    let length = Header::length_at(image, at);
+    checksum_of(Header::signature_at(image, at), length, name)
 }

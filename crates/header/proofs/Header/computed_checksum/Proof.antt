@@ -1,41 +1,22 @@
-use mathlib.Core.Path.{_∙_}
-use Rattle.header.specs.Checksum.{sumFrom}
 use borrow.Author.Needs.{needs}
+use native.Mathlib.Omega.{arith}
+use mathlib.Core.Path.{refl}
+use Rattle.header.proofs.ChecksumLaws.{sum-covered}
 use Rattle.header.proofs.Header.computed_checksum.Statement.{statement}
 use Rattle.header.proofs.Header.computed_checksum.Tie as tie
-
-add-carry-requires : tie.Need-add-carry-requires
-add-carry-requires c κs = search needs
-
-cast-add-carry : tie.Need-cast-add-carry
-cast-add-carry c = search needs
-
-add-carry-requires-2 : tie.Need-add-carry-requires-2
-add-carry-requires-2 c κs = search needs
-
-cast-add-carry-2 : tie.Need-cast-add-carry-2
-cast-add-carry-2 c = search needs
-
-add-carry-requires-3 : tie.Need-add-carry-requires-3
-add-carry-requires-3 c κs = search needs
 
 sum-name-requires : tie.Need-sum-name-requires
 sum-name-requires c κs = search needs
 
+checksum-of-requires : tie.Need-checksum-of-requires
+checksum-of-requires c κs = search needs
+
 returns : tie.Need-returns
-unfolding sumFrom
 returns c =
-    c .sum-name .ensures
-    ∙ rw (c .before .before .add-carry3 .ensures, c .before .before .before .add-carry2 .ensures, c .before .before .before .before .add-carry .ensures)
+    let n = c .before in
+    let a = n .before .before .before .args in
+    sum-covered (a .self) (omega arith) (n .sum-name .ensures .2) (n .sum-name .result) (a .self .signature) (c .checksum-of .result)
+    (n .sum-name .ensures .0) refl (c .checksum-of .ensures)
 
 pub computed-checksum-spec : {M : Type 1} → statement M
-computed-checksum-spec =
-    tie.close
-    (tie.spec
-    add-carry-requires
-    cast-add-carry
-    add-carry-requires-2
-    cast-add-carry-2
-    add-carry-requires-3
-    sum-name-requires
-    returns)
+computed-checksum-spec = tie.close (tie.spec sum-name-requires checksum-of-requires returns)

@@ -1,5 +1,4 @@
 use borrow.Author.Needs.{needs}
-use Prim.Native.Nat.{_+_, _*_}
 use mathlib.Core.List.{[], _∷_}
 use Rattle.header.specs.Header.{headerAt, nameAt}
 use Rattle.header.proofs.Header.read.Statement.{statement}
@@ -8,14 +7,8 @@ use Rattle.header.proofs.Header.read.Tie as tie
 byte-requires : tie.Need-byte-requires
 byte-requires c κs = search needs
 
-cast-high : tie.Need-cast-high
-cast-high c = search needs
-
 byte-requires-2 : tie.Need-byte-requires-2
 byte-requires-2 c κs = search needs
-
-cast-low : tie.Need-cast-low
-cast-low c = search needs
 
 byte-requires-3 : tie.Need-byte-requires-3
 byte-requires-3 c κs = search needs
@@ -47,44 +40,50 @@ byte-requires-11 c κs = search needs
 byte-requires-12 : tie.Need-byte-requires-12
 byte-requires-12 c κs = search needs
 
+signature-at-requires : tie.Need-signature-at-requires
+signature-at-requires c κs = search needs
+
 byte-requires-13 : tie.Need-byte-requires-13
 byte-requires-13 c κs = search needs
 
-byte-requires-14 : tie.Need-byte-requires-14
-byte-requires-14 c κs = search needs
-
-byte-requires-15 : tie.Need-byte-requires-15
-byte-requires-15 c κs = search needs
-
-byte-requires-16 : tie.Need-byte-requires-16
-byte-requires-16 c κs = search needs
-
-mul-t18 : tie.Need-mul-t18
-mul-t18 c = search needs
-
-add-t19 : tie.Need-add-t19
-add-t19 c = search needs
+length-at-requires : tie.Need-length-at-requires
+length-at-requires c κs = search needs
 
 returns : tie.Need-returns
 unfolding headerAt nameAt
-returns c = λ i.
+returns c =
+    let k = c .before in
+    let s = k .before in
+    let b12 = s .before in
+    let b11 = b12 .before in
+    let b10 = b11 .before in
+    let b9 = b10 .before in
+    let b8 = b9 .before in
+    let b7 = b8 .before in
+    let b6 = b7 .before in
+    let b5 = b6 .before in
+    let b4 = b5 .before in
+    let b3 = b4 .before in
+    let b2 = b3 .before in
+    let b1 = b2 .before in
+    λ i.
     record {
-      signature = c .before .byte15 .ensures i;
-      checksum = c .byte16 .ensures i;
-      length = record { 0 = (c .before .before .before .before .before .before .before .before .before .before .before .before .before .before .before .byte .ensures i) * 256 + (c .before .before .before .before .before .before .before .before .before .before .before .before .before .before .byte2 .ensures i) };
+      signature = s .signature-at .ensures i;
+      checksum = k .byte13 .ensures i;
+      length = c .length-at .ensures i;
       name =
-          (c .before .before .before .before .before .before .before .before .before .before .before .before .before .byte3 .ensures i) ∷
-          (c .before .before .before .before .before .before .before .before .before .before .before .before .byte4 .ensures i) ∷
-          (c .before .before .before .before .before .before .before .before .before .before .before .byte5 .ensures i) ∷
-          (c .before .before .before .before .before .before .before .before .before .before .byte6 .ensures i) ∷
-          (c .before .before .before .before .before .before .before .before .before .byte7 .ensures i) ∷
-          (c .before .before .before .before .before .before .before .before .byte8 .ensures i) ∷
-          (c .before .before .before .before .before .before .before .byte9 .ensures i) ∷
-          (c .before .before .before .before .before .before .byte10 .ensures i) ∷
-          (c .before .before .before .before .before .byte11 .ensures i) ∷
-          (c .before .before .before .before .byte12 .ensures i) ∷
-          (c .before .before .before .byte13 .ensures i) ∷
-          (c .before .before .byte14 .ensures i) ∷ [];
+          (b1 .byte .ensures i) ∷
+          (b2 .byte2 .ensures i) ∷
+          (b3 .byte3 .ensures i) ∷
+          (b4 .byte4 .ensures i) ∷
+          (b5 .byte5 .ensures i) ∷
+          (b6 .byte6 .ensures i) ∷
+          (b7 .byte7 .ensures i) ∷
+          (b8 .byte8 .ensures i) ∷
+          (b9 .byte9 .ensures i) ∷
+          (b10 .byte10 .ensures i) ∷
+          (b11 .byte11 .ensures i) ∷
+          (b12 .byte12 .ensures i) ∷ [];
     }
 
 pub read-spec : {M : Type 1} → statement M
@@ -92,9 +91,7 @@ read-spec =
     tie.close
     (tie.spec
     byte-requires
-    cast-high
     byte-requires-2
-    cast-low
     byte-requires-3
     byte-requires-4
     byte-requires-5
@@ -105,10 +102,7 @@ read-spec =
     byte-requires-10
     byte-requires-11
     byte-requires-12
+    signature-at-requires
     byte-requires-13
-    byte-requires-14
-    byte-requires-15
-    byte-requires-16
-    mul-t18
-    add-t19
+    length-at-requires
     returns)

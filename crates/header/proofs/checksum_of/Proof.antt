@@ -1,0 +1,31 @@
+use borrow.Author.Needs.{needs}
+use Prim.Native.Nat.{ℕ, _+_, _/_, _%_}
+use mathlib.Core.Path.{ap, _∙_}
+use Rattle.header.specs.Checksum.{closedForm}
+use Rattle.header.proofs.checksum_of.Statement.{statement}
+use Rattle.header.proofs.checksum_of.Tie as tie
+
+wide-requires : tie.Need-wide-requires
+wide-requires c κs = search needs
+
+add-folded : tie.Need-add-folded
+add-folded c = search needs
+
+add-folded-2 : tie.Need-add-folded-2
+add-folded-2 c = search needs
+
+add-folded-3 : tie.Need-add-folded-3
+add-folded-3 c = search needs
+
+folded-requires : tie.Need-folded-requires
+folded-requires c κs = search needs
+
+returns : tie.Need-returns
+returns c =
+    let a = c .before .before .args in
+    c .folded .ensures
+    ∙ ap (λ (s : ℕ). closedForm (a .name + s + a .length .0 / 256 % 256 + a .length .0 % 256)) (c .before .wide .ensures)
+
+pub checksum-of-spec : {M : Type 1} → statement M
+checksum-of-spec =
+    tie.close (tie.spec wide-requires add-folded add-folded-2 add-folded-3 folded-requires returns)

@@ -1,0 +1,42 @@
+use borrow.Author.Needs.{needs}
+use Rattle.header.proofs.ValidityLaws.{zero-length, past-end, checksum-differs, checksum-zero, no-rule-broken}
+use Rattle.header.proofs.first_broken.Statement.{statement}
+use Rattle.header.proofs.first_broken.Tie as tie
+
+returns : tie.Need-returns
+returns c =
+    let a = c .before .before .args in
+    zero-length (a .blocks) (a .stored) (a .computed) (a .at) (a .room) (c .if1 .taken)
+
+bytes-requires : tie.Need-bytes-requires
+bytes-requires c κs = search needs
+
+returns-2 : tie.Need-returns-2
+returns-2 c =
+    let b = c .before .before in
+    let a = b .before .before .before .args in
+    past-end (a .blocks) (a .stored) (a .computed) (a .at) (a .room) (b .before .if1 .left) (b .bytes .result) (b .bytes .ensures) (c .if2 .taken)
+
+returns-3 : tie.Need-returns-3
+returns-3 c =
+    let f = c .before in
+    let b = f .before .before in
+    let a = b .before .before .before .args in
+    checksum-differs (a .blocks) (a .stored) (a .computed) (a .at) (a .room) (b .before .if1 .left) (b .bytes .result) (b .bytes .ensures) (f .if2 .left) (c .if3 .taken)
+
+returns-4 : tie.Need-returns-4
+returns-4 c =
+    let f = c .before .before in
+    let b = f .before .before in
+    let a = b .before .before .before .args in
+    checksum-zero (a .blocks) (a .stored) (a .computed) (a .at) (a .room) (b .before .if1 .left) (b .bytes .result) (b .bytes .ensures) (f .if2 .left) (c .before .if3 .left) (c .if4 .taken)
+
+returns-5 : tie.Need-returns-5
+returns-5 c =
+    let f = c .before .before in
+    let b = f .before .before in
+    let a = b .before .before .before .args in
+    no-rule-broken (a .blocks) (a .stored) (a .computed) (a .at) (a .room) (b .before .if1 .left) (b .bytes .result) (b .bytes .ensures) (f .if2 .left) (c .before .if3 .left) (c .if4 .left)
+
+pub first-broken-spec : {M : Type 1} → statement M
+first-broken-spec = tie.close (tie.spec returns bytes-requires returns-2 returns-3 returns-4 returns-5)
