@@ -5,12 +5,15 @@ use mathlib.Core.Bool.{Bool, true, false}
 use mathlib.Core.List.{List, [], _∷_}
 use native.Mathlib.Omega.{arith}
 use lib.ListN.{length}
+use Rattle.lists.specs.Bytes.{sameBytes}
 use Rattle.header.specs.declared.Error.the-variants.{ImageLength, NoPartition}
+use Rattle.header.specs.Header.{headerAt}
 use Rattle.partitions.specs.declared.Partition.{Partition}
 use Rattle.partitions.specs.declared.Found.{Found}
 use Rattle.partitions.specs.declared.Found.the-variants.{At, Refused}
 use Rattle.partitions.specs.Walk.{Walk, covered, broken, walk, allowedLength}
-use Rattle.partitions.specs.Find.{matches, keepFirst, firstMatch, findBy, findOf, atIndex, indexBy, indexOf}
+use Rattle.partitions.specs.Find.{padded, matches, keepFirst, firstMatch, findBy, findOf, atIndex, indexBy, indexOf}
+use Rattle.partitions.proofs.NameLaws.{matches-signed, matches-other}
 use Rattle.partitions.proofs.WalkLaws.{rest, walk-rest, walk-refused, onWalk}
 
 -- by index: n partitions are to be passed
@@ -86,3 +89,21 @@ module _ (image : List ℕ) (signature : ℕ) (name : List ℕ) where
       → onWalk (seekName image signature name (Refused NoPartition)) Refused (rest image 0) ≡ findOf image signature name
   unfolding findOf
   name-start a = name-on (rest image 0) ∙ ap (findBy image signature name) (sym (walk-rest image a))
+
+  -- a turn of the loop, where the signature agrees and where not
+  module _ (best : Found) (p : Partition) (ps : List Partition) (es : headerAt image (p .offset) .signature ≡ p .signature) where
+    pub seek-signed : p .signature ≡ signature → (r : Found)
+        → r ≡ keepFirst best (sameBytes (headerAt image (p .offset) .name) (padded 12 name)) p
+        → seekName image signature name best (p ∷ ps) ≡ seekName image signature name r ps
+    seek-signed e r er =
+        ap (λ (b : Bool). seekName image signature name (keepFirst best b p) ps) (matches-signed image (p .offset) signature name (es ∙ e))
+        ∙ ap (λ (f : Found). seekName image signature name f ps) (sym er)
+
+    pub seek-other : (p .signature ≡ signature → ⊥) → seekName image signature name best (p ∷ ps) ≡ seekName image signature name best ps
+    seek-other d =
+        ap (λ (b : Bool). seekName image signature name (keepFirst best b p) ps) (matches-other image (p .offset) signature name (λ q. d (sym es ∙ q)))
+        ∙ ap (λ (f : Found). seekName image signature name f ps) (unwanted best)
+      where
+        unwanted : (f : Found) → keepFirst f false p ≡ f
+        unwanted (At q) = refl
+        unwanted (Refused e) = refl

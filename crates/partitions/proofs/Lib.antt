@@ -1,8 +1,8 @@
 pub mod StepLaws
 pub mod WalkLaws
 pub mod CheckLaws
-pub mod FindLaws
 pub mod NameLaws
+pub mod FindLaws
 pub mod CoverLaws
 pub mod AreaLaws
 pub mod FoundLaws

@@ -64,22 +64,19 @@ module _ (stored name : List ℕ) where
         drop-of-length-le (padded (length stored) name) {i = i} (omega (arith, length-padded (length stored) name)) in
         rw (e, f) at inv
 
--- the header that was read, compared field by field
-module _ (image : List ℕ) (at signature : ℕ) (name : List ℕ) (h : Header) (eh : h ≡ headerAt image at) where
-  signature-of : headerAt image at .signature ≡ h .signature
-  signature-of = ap (λ (x : Header). x .signature) (sym eh)
+-- the name of the header that was read
+pub name-read : (image : List ℕ) (at : ℕ) (name : List ℕ) (h : Header) → h ≡ headerAt image at
+    → (r : Bool) → r ≡ sameBytes (h .name) (padded (length (h .name)) name) → r ≡ sameBytes (headerAt image at .name) (padded 12 name)
+unfolding headerAt nameAt
+name-read image at name h eh r er = er ∙ ap (λ (x : Header). sameBytes (x .name) (padded (length (x .name)) name)) eh
 
-  name-length : length (headerAt image at .name) ≡ 12
-  unfolding headerAt nameAt
-  name-length = refl
-
-  pub named-here : h .signature ≡ signature → (r : Bool) → r ≡ sameBytes (h .name) (padded (length (h .name)) name) → r ≡ matches image signature name at
+-- the test of a header, where its signature is the one that is asked for, and where not
+module _ (image : List ℕ) (at signature : ℕ) (name : List ℕ) where
+  pub matches-signed : headerAt image at .signature ≡ signature
+      → matches image signature name at ≡ sameBytes (headerAt image at .name) (padded 12 name)
   unfolding matches
-  named-here es r er =
-      rw (eq-eqb _ _ (signature-of ∙ es))
-      (er ∙ ap (λ (x : Header). sameBytes (x .name) (padded (length (x .name)) name)) eh
-      ∙ ap (λ (n : ℕ). sameBytes (headerAt image at .name) (padded n name)) name-length)
+  matches-signed e = rw (eq-eqb _ _ e)
 
-  pub not-named : (h .signature ≡ signature → ⊥) → false ≡ matches image signature name at
+  pub matches-other : (headerAt image at .signature ≡ signature → ⊥) → matches image signature name at ≡ false
   unfolding matches
-  not-named d = rw (ne-eqb (headerAt image at .signature) signature (λ q. d (sym signature-of ∙ q)))
+  matches-other d = rw (ne-eqb _ _ d)

@@ -5,12 +5,12 @@ use mathlib.Core.List.{List}
 use native.Mathlib.Omega.{arith}
 use lib.ListN.{length}
 use borrow.Author.Tests.{le-leb, lt-leb}
+use Rattle.header.specs.declared.Blocks.{Blocks}
 use Rattle.header.specs.declared.Bytes.{Bytes}
 use Rattle.header.specs.declared.Error.{Error}
-use Rattle.header.specs.declared.Header.{Header}
 use Rattle.header.specs.declared.Validity.{Validity}
 use Rattle.header.specs.declared.Validity.the-variants.{Valid, Invalid}
-use Rattle.header.specs.Header.{headerAt, bytesOf, validityOf, validityAt}
+use Rattle.header.specs.Header.{headerAt, bytesOf, validityAt}
 use Rattle.header.proofs.ValidityLaws.{valid-fits}
 use Rattle.partitions.specs.declared.Step.{Step}
 use Rattle.partitions.specs.declared.Step.the-variants.{Next, End, Broken}
@@ -32,21 +32,23 @@ module _ (image : List ℕ) (at : ℕ) where
   step-broken h e v = step-by h ∙ ap (stepBy image at) v
 
   -- the same of what the code has read
-  module _ (h : Header) (eh : h ≡ headerAt image at) (v : Validity) (ev : v ≡ validityOf h at (length image - at)) where
-    validity-eq : validityAt image at ≡ v
-    unfolding validityAt
-    validity-eq = sym (ev ∙ ap (λ (x : Header). validityOf x at (length image - at)) eh)
+  module _ (v : Validity) (ev : v ≡ validityAt image at) where
+    module _ (valid : v ≡ Valid) (l : Blocks) (el : l ≡ headerAt image at .length) (b : Bytes) (eb : b ≡ bytesOf l) where
+      past : b ≡ bytesOf (headerAt image at .length)
+      past = eb ∙ ap bytesOf el
 
-    pub read-fits : v ≡ Valid → bytesOf (h .length) .0 ≤ length image - at
-    read-fits e = valid-fits h at (length image - at) (sym ev ∙ e)
+      pub read-fits : b .0 ≤ length image - at
+      unfolding validityAt
+      read-fits =
+          subst (λ (x : Bytes). x .0 ≤ length image - at) (sym past)
+          (valid-fits (headerAt image at) at (length image - at) (sym ev ∙ valid))
 
-    pub read-next : at < length image → v ≡ Valid → (b : Bytes) → b ≡ bytesOf (h .length)
-        → _≡_ {A = Step} (Next (record { offset = at; blocks = h .length; signature = h .signature }) (record { at = at + b .0 })) (stepAt image at)
-    unfolding partitionOf pastOf
-    read-next l e b eb =
-        let q : b ≡ bytesOf (headerAt image at .length) = eb ∙ ap (λ (x : Header). bytesOf (x .length)) eh in
-        (λ i. Next (record { offset = at; blocks = eh i .length; signature = eh i .signature }) (record { at = at + q i .0 }))
-        ∙ sym (step-next l (validity-eq ∙ e))
+      pub read-next : at < length image → (s : ℕ) → s ≡ headerAt image at .signature
+          → _≡_ {A = Step} (Next (record { offset = at; blocks = l; signature = s }) (record { at = at + b .0 })) (stepAt image at)
+      unfolding partitionOf pastOf
+      read-next h s es =
+          (λ i. Next (record { offset = at; blocks = el i; signature = es i }) (record { at = at + past i .0 }))
+          ∙ sym (step-next h (sym ev ∙ valid))
 
     pub read-broken : at < length image → (e : Error) → v ≡ Invalid e → Broken e ≡ stepAt image at
-    read-broken l e q = sym (step-broken l e (validity-eq ∙ q))
+    read-broken h e q = sym (step-broken h e (sym ev ∙ q))

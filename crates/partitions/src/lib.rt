@@ -2,8 +2,9 @@
 ghost use mathlib.Core.Path.{_≡_};
 ghost use lib.ListN.{length, getD};
 ghost use Rattle.lists.specs.Bytes.{sameBytes};
+ghost use Rattle.header.specs.Header.{headerAt};
 ghost use Rattle.partitions.specs.Walk.{allowedLength, stepAt};
-ghost use Rattle.partitions.specs.Find.{padded, matches, keepFirst, checkOf, indexOf, findOf, areaOf};
+ghost use Rattle.partitions.specs.Find.{padded, keepFirst, checkOf, indexOf, findOf, areaOf};
 ghost use Rattle.partitions.specs.Answers.{checkAnswer, findAnswer};
 use header::Blocks;
 use header::Error;
@@ -52,17 +53,17 @@ impl Cursor {
         if n <= at {
             return Step::End;
         }
-        let h = Header::read(image, at);
-        let validity = h.check(at, n - at);
+        let validity = Header::check_at(image, at);
         match validity {
             Validity::Valid => {
-                let blocks = h.length;
+                let blocks = Header::length_at(image, at);
                 let bytes = blocks.bytes();
+                let signature = Header::signature_at(image, at);
                 Step::Next(
                     Partition {
                         offset: at,
                         blocks,
-                        signature: h.signature,
+                        signature,
                     },
                     Cursor { at: at + bytes.0 },
                 )
@@ -256,16 +257,21 @@ fn same_name(stored: &[u8; 12], name: &[u8]) -> bool
     same_padded(stored, name)
 }
 
-// Whether the partition at an offset has this signature and this name.
-fn is_named(image: &[u8], at: usize, signature: u8, name: &[u8]) -> bool
-    ensures { λ r. ⌜ r ≡ matches (now (image .entry)) signature (now (name .entry)) at ⌝ }
+// Whether the header at an offset has this name.
+fn has_name(image: &[u8], at: usize, name: &[u8]) -> bool
+    ensures { λ r. ⌜ r ≡ sameBytes (headerAt (now (image .entry)) at .name) (padded 12 (now (name .entry))) ⌝ }
 {
-    let h = Header::read(image, at);
-    if h.signature == signature {
-        let stored = h.name;
-        same_name(&stored, name)
-    } else {
-        false
+    let stored = Header::read(image, at).name;
+    same_name(&stored, name)
+}
+
+// What was found before, or else the partition where it has this name; its name is read only where nothing was found.
+fn first_named(best: Found, image: &[u8], p: Partition, name: &[u8]) -> Found
+    ensures { λ r. ⌜ r ≡ keepFirst best (sameBytes (headerAt (now (image .entry)) (p .offset) .name) (padded 12 (now (name .entry)))) p ⌝ }
+{
+    match best {
+        Found::At(_) => best,
+        Found::Refused(_) => first_of(best, has_name(image, p.offset, name), p),
     }
 }
 
@@ -282,8 +288,9 @@ pub fn find(image: &[u8], signature: u8, name: &[u8]) -> Found
         let step = cursor.step(image);
         match step {
             Step::Next(p, next) => {
-                let wanted = is_named(image, p.offset, signature, name);
-                best = first_of(best, wanted, p);
+                if p.signature == signature {
+                    best = first_named(best, image, p, name);
+                }
                 cursor = next;
             }
             Step::End => break best,

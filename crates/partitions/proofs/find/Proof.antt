@@ -1,6 +1,5 @@
 use Prim.Native.Nat.{ℕ, _-_, _<_, _≤_}
-use mathlib.Core.Path.{_≡_, sym, _∙_, ap, subst}
-use mathlib.Core.Bool.{Bool}
+use mathlib.Core.Path.{_≡_, sym, _∙_, subst}
 use mathlib.Core.List.{List}
 use native.Mathlib.Omega.{arith}
 use lib.ListN.{length}
@@ -12,9 +11,9 @@ use Rattle.partitions.specs.declared.Cursor.{Cursor}
 use Rattle.partitions.specs.declared.Step.the-variants.{Next}
 use Rattle.partitions.specs.declared.Found.{Found}
 use Rattle.partitions.specs.declared.Found.the-variants.{Refused}
-use Rattle.partitions.specs.Find.{findOf, keepFirst}
-use Rattle.partitions.proofs.WalkLaws.{next-bounds, rest, onWalk, loop-next, loop-end, loop-broken}
-use Rattle.partitions.proofs.FindLaws.{seekName, name-refused, name-start}
+use Rattle.partitions.specs.Find.{findOf}
+use Rattle.partitions.proofs.WalkLaws.{next-bounds, next-signature, rest, onWalk, loop-next, loop-end, loop-broken}
+use Rattle.partitions.proofs.FindLaws.{seekName, name-refused, name-start, seek-signed, seek-other}
 use borrow.Author.Needs.{needs}
 use Rattle.partitions.proofs.find.Statement.{statement}
 use Rattle.partitions.proofs.find.Tie as tie
@@ -65,28 +64,46 @@ step-requires c κs = search needs
 enum-known-step : tie.Need-enum-known-step Inv-loop μ-loop
 enum-known-step c = search needs
 
-is-named-requires : tie.Need-is-named-requires Inv-loop μ-loop
-is-named-requires c κs = search needs
-
-first-of-requires : tie.Need-first-of-requires Inv-loop μ-loop
-first-of-requires c κs = search needs
+first-named-requires : tie.Need-first-named-requires Inv-loop μ-loop
+first-named-requires c κs = search needs
 
 loop-less : tie.Need-loop-less Inv-loop μ-loop
 loop-less c =
-    let t = c .before .before in
+    let t = c .before .before .before in
     let g = t .before .step2 .given in
     omega (arith, on (t .before .before .before) (g .0 .0) (g .0 .1 .0) (g .1))
 
 loop-again : tie.Need-loop-again Inv-loop μ-loop
 loop-again c =
-    let n = c .before in
-    let t = n .before in
+    let t = c .before .before .before in
     let s = t .before .before .before in
     let l = s .before in
+    let a = l .before .before .before .before .before .before .args in
     let g = t .before .step2 .given in
-    loop-next (imageOf s) (l .loop .cursor .at) (seek s (l .loop .best)) Refused _ (l .loop .inv) (g .0 .0) (g .0 .1 .0) (sym (s .step .ensures) ∙ g .1)
-    (seek s (c .first-of .result))
-    (λ ps. ap (λ (b : Found). seek s b ps) (sym (c .first-of .ensures ∙ ap (λ (w : Bool). keepFirst (l .loop .best) w (g .0 .0)) (n .is-named .ensures))))
+    let e = sym (s .step .ensures) ∙ g .1 in
+    loop-next (imageOf s) (l .loop .cursor .at) (seek s (l .loop .best)) Refused _ (l .loop .inv) (g .0 .0) (g .0 .1 .0) e
+    (seek s (c .first-named .result))
+    (λ ps. seek-signed (imageOf s) (a .signature) (now (a .name)) (l .loop .best) (g .0 .0) ps
+    (next-signature (imageOf s) (l .loop .cursor .at) (g .0 .0) (g .0 .1 .0) e) (c .before .if2 .taken) (c .first-named .result) (c .first-named .ensures))
+
+loop-less-2 : tie.Need-loop-less-2 Inv-loop μ-loop
+loop-less-2 c =
+    let t = c .before .before in
+    let g = t .before .step2 .given in
+    omega (arith, on (t .before .before .before) (g .0 .0) (g .0 .1 .0) (g .1))
+
+loop-again-2 : tie.Need-loop-again-2 Inv-loop μ-loop
+loop-again-2 c =
+    let t = c .before .before in
+    let s = t .before .before .before in
+    let l = s .before in
+    let a = l .before .before .before .before .before .before .args in
+    let g = t .before .step2 .given in
+    let e = sym (s .step .ensures) ∙ g .1 in
+    loop-next (imageOf s) (l .loop .cursor .at) (seek s (l .loop .best)) Refused _ (l .loop .inv) (g .0 .0) (g .0 .1 .0) e
+    (seek s (l .loop .best))
+    (λ ps. seek-other (imageOf s) (a .signature) (now (a .name)) (l .loop .best) (g .0 .0) ps
+    (next-signature (imageOf s) (l .loop .cursor .at) (g .0 .0) (g .0 .1 .0) e) (c .if2 .left))
 
 enum-told : tie.Need-enum-told Inv-loop μ-loop
 enum-told c = search needs
@@ -119,10 +136,11 @@ find-spec =
     loop-holds
     step-requires
     enum-known-step
-    is-named-requires
-    first-of-requires
+    first-named-requires
     loop-less
     loop-again
+    loop-less-2
+    loop-again-2
     enum-told
     enum-known-step-2
     returns-2

@@ -1,0 +1,20 @@
+use borrow.Author.Needs.{needs}
+use denote.Ref.{now}
+use Rattle.partitions.proofs.NameLaws.{name-read}
+use Rattle.partitions.proofs.has_name.Statement.{statement}
+use Rattle.partitions.proofs.has_name.Tie as tie
+
+read-requires : tie.Need-read-requires
+read-requires c κs = search needs
+
+same-name-requires : tie.Need-same-name-requires
+same-name-requires c κs = search needs
+
+returns : tie.Need-returns
+returns c =
+    let r = c .before .before .before in
+    let a = r .before .before .before .args in
+    name-read (now (a .image)) (a .at) (now (a .name)) (r .read .result) (r .read .ensures) (c .same-name .result) (c .same-name .ensures)
+
+pub has-name-spec : {M : Type 1} → statement M
+has-name-spec = tie.close (tie.spec read-requires same-name-requires returns)
