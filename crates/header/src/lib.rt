@@ -5,7 +5,7 @@ ghost use lib.ListN.{length as len};
 ghost use Rattle.lists.specs.Bytes.{AllBytes};
 ghost use Rattle.header.specs.Checksum.{sum, sumcheck, closedForm};
 ghost use Rattle.header.specs.Errors.{codeOf, offsetOf};
-ghost use Rattle.header.specs.Header.{bytesOf, byteAt, headerAt, covered, newHeader, firstBroken, validityOf, validityAt};
+ghost use Rattle.header.specs.Header.{bytesOf, byteAt, nameAt, headerAt, covered, newHeader, firstBroken, validityOf, validityAt};
 
 // A refused call: one case for each number of the table, with the offset where the table gives one.
 pub enum Error {
@@ -170,25 +170,11 @@ impl Header {
     pub fn read(image: &[u8], at: usize) -> Self
         ensures { λ r. ⌜ r ≡ headerAt (now (image .entry)) at ⌝ }
     {
-        let name = [
-            byte(image, at, 4),
-            byte(image, at, 5),
-            byte(image, at, 6),
-            byte(image, at, 7),
-            byte(image, at, 8),
-            byte(image, at, 9),
-            byte(image, at, 10),
-            byte(image, at, 11),
-            byte(image, at, 12),
-            byte(image, at, 13),
-            byte(image, at, 14),
-            byte(image, at, 15),
-        ];
         Header {
             signature: Header::signature_at(image, at),
             checksum: byte(image, at, 1),
             length: Header::length_at(image, at),
-            name,
+            name: name_at(image, at),
         }
     }
 
@@ -278,6 +264,60 @@ fn byte(image: &[u8], at: usize, k: usize) -> u8
         }
     }
     0
+}
+
+// The name in the header at an offset; that of a whole header is read without a test for each byte.
+fn name_at(image: &[u8], at: usize) -> [u8; 12]
+    ensures { λ r. ⌜ r ≡ nameAt (now (image .entry)) at ⌝ }
+{
+    let n = image.len();
+    if at < n {
+        if Header::SIZE <= n - at {
+            return whole_name(image, at);
+        }
+    }
+    cut_name(image, at)
+}
+
+// The name in a whole header.
+fn whole_name(image: &[u8], at: usize) -> [u8; 12]
+    requires { ⌜ at + 16 ≤ len (now image) ⌝ }
+    ensures { λ r. ⌜ r ≡ nameAt (now (image .entry)) at ⌝ }
+{
+    [
+        image[at + 4],
+        image[at + 5],
+        image[at + 6],
+        image[at + 7],
+        image[at + 8],
+        image[at + 9],
+        image[at + 10],
+        image[at + 11],
+        image[at + 12],
+        image[at + 13],
+        image[at + 14],
+        image[at + 15],
+    ]
+}
+
+// The name in a header that may be cut off.
+fn cut_name(image: &[u8], at: usize) -> [u8; 12]
+    ensures { λ r. ⌜ r ≡ nameAt (now (image .entry)) at ⌝ }
+{
+    [
+        byte(image, at, 4),
+        byte(image, at, 5),
+        byte(image, at, 6),
+        byte(image, at, 7),
+        byte(image, at, 8),
+        byte(image, at, 9),
+        byte(image, at, 10),
+        byte(image, at, 11),
+        byte(image, at, 12),
+        byte(image, at, 13),
+        byte(image, at, 14),
+        byte(image, at, 15),
+    ]
 }
 
 // A byte as a term of a sum.

@@ -1,108 +1,34 @@
 use borrow.Author.Needs.{needs}
-use mathlib.Core.List.{[], _∷_}
-use Rattle.header.specs.Header.{headerAt, nameAt}
+use Rattle.header.specs.Header.{headerAt}
 use Rattle.header.proofs.Header.read.Statement.{statement}
 use Rattle.header.proofs.Header.read.Tie as tie
-
-byte-requires : tie.Need-byte-requires
-byte-requires c κs = search needs
-
-byte-requires-2 : tie.Need-byte-requires-2
-byte-requires-2 c κs = search needs
-
-byte-requires-3 : tie.Need-byte-requires-3
-byte-requires-3 c κs = search needs
-
-byte-requires-4 : tie.Need-byte-requires-4
-byte-requires-4 c κs = search needs
-
-byte-requires-5 : tie.Need-byte-requires-5
-byte-requires-5 c κs = search needs
-
-byte-requires-6 : tie.Need-byte-requires-6
-byte-requires-6 c κs = search needs
-
-byte-requires-7 : tie.Need-byte-requires-7
-byte-requires-7 c κs = search needs
-
-byte-requires-8 : tie.Need-byte-requires-8
-byte-requires-8 c κs = search needs
-
-byte-requires-9 : tie.Need-byte-requires-9
-byte-requires-9 c κs = search needs
-
-byte-requires-10 : tie.Need-byte-requires-10
-byte-requires-10 c κs = search needs
-
-byte-requires-11 : tie.Need-byte-requires-11
-byte-requires-11 c κs = search needs
-
-byte-requires-12 : tie.Need-byte-requires-12
-byte-requires-12 c κs = search needs
 
 signature-at-requires : tie.Need-signature-at-requires
 signature-at-requires c κs = search needs
 
-byte-requires-13 : tie.Need-byte-requires-13
-byte-requires-13 c κs = search needs
+byte-requires : tie.Need-byte-requires
+byte-requires c κs = search needs
 
 length-at-requires : tie.Need-length-at-requires
 length-at-requires c κs = search needs
 
+name-at-requires : tie.Need-name-at-requires
+name-at-requires c κs = search needs
+
 returns : tie.Need-returns
-unfolding headerAt nameAt
+unfolding headerAt
 returns c =
-    let k = c .before in
-    let s = k .before in
-    let b12 = s .before in
-    let b11 = b12 .before in
-    let b10 = b11 .before in
-    let b9 = b10 .before in
-    let b8 = b9 .before in
-    let b7 = b8 .before in
-    let b6 = b7 .before in
-    let b5 = b6 .before in
-    let b4 = b5 .before in
-    let b3 = b4 .before in
-    let b2 = b3 .before in
-    let b1 = b2 .before in
+    let l = c .before in
+    let k = l .before in
     λ i.
     record {
-      signature = s .signature-at .ensures i;
-      checksum = k .byte13 .ensures i;
-      length = c .length-at .ensures i;
-      name =
-          (b1 .byte .ensures i) ∷
-          (b2 .byte2 .ensures i) ∷
-          (b3 .byte3 .ensures i) ∷
-          (b4 .byte4 .ensures i) ∷
-          (b5 .byte5 .ensures i) ∷
-          (b6 .byte6 .ensures i) ∷
-          (b7 .byte7 .ensures i) ∷
-          (b8 .byte8 .ensures i) ∷
-          (b9 .byte9 .ensures i) ∷
-          (b10 .byte10 .ensures i) ∷
-          (b11 .byte11 .ensures i) ∷
-          (b12 .byte12 .ensures i) ∷ [];
+      signature = k .before .signature-at .ensures i;
+      checksum = k .byte .ensures i;
+      length = l .length-at .ensures i;
+      name = c .name-at .ensures i;
     }
 
 pub read-spec : {M : Type 1} → statement M
 read-spec =
     tie.close
-    (tie.spec
-    byte-requires
-    byte-requires-2
-    byte-requires-3
-    byte-requires-4
-    byte-requires-5
-    byte-requires-6
-    byte-requires-7
-    byte-requires-8
-    byte-requires-9
-    byte-requires-10
-    byte-requires-11
-    byte-requires-12
-    signature-at-requires
-    byte-requires-13
-    length-at-requires
-    returns)
+    (tie.spec signature-at-requires byte-requires length-at-requires name-at-requires returns)
