@@ -1,5 +1,6 @@
 // The partitions of an image: a walk by steps, the image check, a partition by index, by name, and its data area.
 ghost use mathlib.Core.Path.{_≡_};
+ghost use mathlib.Core.Bool.{true};
 ghost use lib.ListN.{length, getD};
 ghost use Rattle.lists.specs.Bytes.{sameBytes};
 ghost use Rattle.header.specs.Header.{headerAt};
@@ -182,19 +183,13 @@ pub fn check(image: &[u8]) -> Checked
     }
 }
 
-// What was found before, or else the partition where it is wanted.
-fn first_of(best: Found, wanted: bool, p: Partition) -> Found
-    ensures { λ r. ⌜ r ≡ keepFirst best wanted p ⌝ }
+// What was found before, or else the partition.
+fn first_of(best: Found, p: Partition) -> Found
+    ensures { λ r. ⌜ r ≡ keepFirst best true p ⌝ }
 {
     match best {
-        Found::At(q) => Found::At(q),
-        Found::Refused(e) => {
-            if wanted {
-                Found::At(p)
-            } else {
-                Found::Refused(e)
-            }
-        }
+        Found::At(_) => best,
+        Found::Refused(_) => Found::At(p),
     }
 }
 
@@ -213,7 +208,7 @@ pub fn by_index(image: &[u8], index: usize) -> Found
         match step {
             Step::Next(p, next) => {
                 if left == 0 {
-                    best = first_of(best, true, p);
+                    best = first_of(best, p);
                 } else {
                     left -= 1;
                 }
@@ -270,8 +265,14 @@ fn first_named(best: Found, image: &[u8], p: Partition, name: &[u8]) -> Found
     ensures { λ r. ⌜ r ≡ keepFirst best (sameBytes (headerAt (now (image .entry)) (p .offset) .name) (padded 12 (now (name .entry)))) p ⌝ }
 {
     match best {
-        Found::At(_) => best,
-        Found::Refused(_) => first_of(best, has_name(image, p.offset, name), p),
+        Found::At(q) => Found::At(q),
+        Found::Refused(e) => {
+            if has_name(image, p.offset, name) {
+                Found::At(p)
+            } else {
+                Found::Refused(e)
+            }
+        }
     }
 }
 

@@ -2,20 +2,17 @@ use borrow.Author.Needs.{needs}
 use Rattle.partitions.proofs.first_of.Statement.{statement}
 use Rattle.partitions.proofs.first_of.Tie as tie
 
-enum-known-best : tie.Need-enum-known-best
-enum-known-best c = search needs
+enum-told : tie.Need-enum-told
+enum-told c = search needs
 
-enum-known-best-2 : tie.Need-enum-known-best-2
-enum-known-best-2 c = search needs
+enum-told-2 : tie.Need-enum-told-2
+enum-told-2 c = search needs
 
 returns : tie.Need-returns
-returns c = rw (c .before .best .given .1)
+returns c = search needs
 
 returns-2 : tie.Need-returns-2
-returns-2 c = rw (c .before .before .best2 .given .1, c .if1 .taken)
-
-returns-3 : tie.Need-returns-3
-returns-3 c = rw (c .before .before .best2 .given .1, c .if1 .left)
+returns-2 c = rw (c .enum-told2 .given .1)
 
 pub first-of-spec : {M : Type 1} → statement M
-first-of-spec = tie.close (tie.spec enum-known-best enum-known-best-2 returns returns-2 returns-3)
+first-of-spec = tie.close (tie.spec enum-told enum-told-2 returns returns-2)
