@@ -46,9 +46,10 @@ use Rattle.variables.specs.Area.{Pair, pairsBytes, stands, parsed, parse}
 use Rattle.variables.specs.Edits.{areaOf as written, setPair, found, lookup}
 use Rattle.variables.specs.Rules.{Entry, Holds, WellFormed}
 use Rattle.variables.specs.Calls.{set, read, wellNamed, done, Outcome, refuse, edited, setIn, callPairs, callArea}
-use Rattle.variables.proofs.ParseLaws.{Good, area-read, length-area, parse-area}
-use Rattle.variables.proofs.EditLaws.{lookup-next, good-set, lookup-set}
-use Rattle.variables.proofs.EntryLaws.{parse-exactly, found-exactly}
+use Rattle.variables.proofs.ParseLaws.{Good, area-read}
+use Rattle.variables.proofs.EditLaws.{length-area, parse-area, lookup-next, good-set, lookup-set}
+use Rattle.variables.proofs.EntryLaws.{parse-exactly}
+use Rattle.variables.proofs.LookupLaws.{found-exactly}
 use Rattle.nvram.specs.Calls.{Answer, moved, answer, Result, callImage}
 use Rattle.nvram.specs.Table.{common}
 use Rattle.nvram.specs.Demands.{Demand2}

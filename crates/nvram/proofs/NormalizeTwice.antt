@@ -21,8 +21,8 @@ use Rattle.values.proofs.RecodeLaws.{run-same, run-other}
 use Rattle.variables.specs.Area.{Pair, pairsBytes, parsed, faulty, parse}
 use Rattle.variables.specs.Edits.{areaOf as written, canonicalPair, normalizePairs}
 use Rattle.variables.specs.Calls.{normalize, wellNamed, Outcome, callPairs, callArea}
-use Rattle.variables.proofs.ParseLaws.{Good, length-pairs, area-read, read-room, length-area, parse-area}
-use Rattle.variables.proofs.EditLaws.{good-normalize, normalize-twice as pairs-twice}
+use Rattle.variables.proofs.ParseLaws.{Good, length-pairs, area-read, read-room}
+use Rattle.variables.proofs.EditLaws.{length-area, parse-area, good-normalize, normalize-twice as pairs-twice}
 use Rattle.nvram.specs.Calls.{Result, callImage}
 use Rattle.nvram.proofs.AreaInImage.{area-back, find-kept, area-new}
 use Rattle.nvram.proofs.CallLaws.{splitFound, splitParse, call-image, image-unfound}

@@ -16,7 +16,8 @@ use Rattle.variables.specs.Area.{Pair, pairsBytes, Parse, parsed, faulty, parse
 use Rattle.variables.specs.Edits.{setPair}
 use Rattle.variables.specs.Rules.{Entry, FaultAt}
 use Rattle.variables.specs.Calls.{Call, set, remove, read, callPairs, callBy}
-use Rattle.variables.proofs.EntryLaws.{entriesOf, parse-exactly, found-exactly, missing-exactly, set-size-exactly}
+use Rattle.variables.proofs.EntryLaws.{entriesOf, parse-exactly}
+use Rattle.variables.proofs.LookupLaws.{found-exactly, missing-exactly, set-size-exactly}
 use Rattle.variables.proofs.LeavesLaws.{set-leaves-exactly, remove-leaves-exactly, normalize-leaves-exactly}
 use Rattle.variables.proofs.FaultLaws.{faulty-exactly}
 use Rattle.nvram.specs.Calls.{moved}

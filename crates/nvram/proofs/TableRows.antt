@@ -21,9 +21,11 @@ use Rattle.variables.specs.Area.{Pair, pairsBytes, stands, Parse, parsed, fault
 use Rattle.variables.specs.Edits.{areaOf, setPair, removePair, normalizePairs, Lookup, found, missing, lookup}
 use Rattle.variables.specs.Rules.{Entry, Pairs, Once, FaultAt}
 use Rattle.variables.specs.Calls.{Call, set, remove, normalize, read, count, wellNamed, callPairs, callBy}
-use Rattle.variables.proofs.ParseLaws.{area-read, read-room, length-area}
-use Rattle.variables.proofs.EditLaws.{names, lookup-missing-exactly, remove-room, normalize-room, bytes-read}
-use Rattle.variables.proofs.EntryLaws.{entriesOf, parse-exactly, found-exactly, missing-exactly, set-size-exactly}
+use Rattle.variables.proofs.ParseLaws.{area-read, read-room, bytes-read}
+use Rattle.variables.proofs.EditLaws.{length-area, lookup-missing-exactly, remove-room, normalize-room}
+use Rattle.variables.proofs.StandsLaws.{names}
+use Rattle.variables.proofs.EntryLaws.{entriesOf, parse-exactly}
+use Rattle.variables.proofs.LookupLaws.{found-exactly, missing-exactly, set-size-exactly}
 use Rattle.variables.proofs.LeavesLaws.{set-leaves-exactly, remove-leaves-exactly, normalize-leaves-exactly}
 use Rattle.variables.proofs.FaultLaws.{faulty-exactly}
 use Rattle.nvram.specs.Calls.{moved}

@@ -1,52 +1,38 @@
 -- What the edits make of pairs: good pairs stay good, the others keep their places, and none but a set takes more room.
 use Prim.Native.Nat.{ℕ, _+_, _-_, _≤_, _<_}
 use mathlib.Core.Path.{_≡_, refl, sym, ap, _∙_}
-use mathlib.Core.Bool.{Bool, true, false, _||_}
+use mathlib.Core.Bool.{true, false}
 use mathlib.Core.List.{List, [], _∷_, _++_}
 use mathlib.Core.Logic.{_≢_, _↔_}
 use native.Mathlib.Omega.{arith}
-use lib.ListN.{length, replicate}
+use lib.ListN.{length, replicate, length-append, length-replicate}
 use Rattle.lists.specs.Bytes.{Every, AllBytes, sameBytes}
 use Rattle.lists.proofs.Tests.{split, clash}
 use Rattle.lists.proofs.ListLaws.{every-append, every-replicate}
-use Rattle.lists.proofs.ByteLaws.{same-refl, same-true, same-false, same-not}
+use Rattle.lists.proofs.ByteLaws.{same-refl, same-true, same-false}
 use Rattle.names.specs.Rules.{NameByte, NameRule}
 use Rattle.values.specs.Value.{decode}
 use Rattle.values.proofs.DecodeLaws.{spells-exactly, bytes-decode}
 use Rattle.values.proofs.EncodeLaws.{decode-encode, encode-again, spelled-encode, bytes-encode, encode-shortest}
-use Rattle.variables.specs.Area.{Pair, pairOf, pairBytes, pairsBytes, stands}
+use Rattle.variables.specs.Area.{Pair, pairOf, pairBytes, pairsBytes, stands, parsed, parse}
 use Rattle.variables.specs.Edits.{areaOf, canonicalPair, setPair, removePair, normalizePairs, found, missing, lookup}
-use Rattle.variables.proofs.ParseLaws.{Good, none, more, length-pairs, Read}
+use Rattle.variables.proofs.ParseLaws.{Good, none, more, length-pairs, area-reads, bytes-pairs}
+use Rattle.variables.proofs.StandsLaws.{names, stands-not, not-stands, stands-first, good-unseen}
 
--- ---- names among names
+-- ---- the area that is written
 
-pub or-false : (a b : Bool) → a || b ≡ false → (a ≡ false) × (b ≡ false)
-or-false true b e = clash (cc)
-or-false false b e = (refl, e)
+pub length-area : (n : ℕ) (ps : List Pair) → length (pairsBytes ps) + 1 ≤ n → length (areaOf n ps) ≡ n
+unfolding areaOf
+length-area n ps h =
+    omega (
+      arith,
+      length-append (pairsBytes ps) (0x00 ∷ replicate (n - (length (pairsBytes ps) + 1)) 0x00),
+      length-replicate {A = ℕ} (n - (length (pairsBytes ps) + 1)) 0x00,
+    )
 
--- the names of pairs, in order
-abbrev pub names : List Pair → List (List ℕ)
-names [] = []
-names (p ∷ ps) = p .name ∷ names ps
-
-pub stands-not : (name n : List ℕ) (ns : List (List ℕ)) → stands name (n ∷ ns) ≡ false → (sameBytes name n ≡ false) × (stands name ns ≡ false)
-unfolding stands
-stands-not name n ns e = or-false (sameBytes name n) (stands name ns) e
-
-pub not-stands : (name n : List ℕ) (ns : List (List ℕ)) → sameBytes name n ≡ false → stands name ns ≡ false → stands name (n ∷ ns) ≡ false
-unfolding stands
-not-stands name n ns e f = rw (e, f)
-
-pub stands-first : (name n : List ℕ) (ns : List (List ℕ)) → sameBytes name n ≡ true → stands name (n ∷ ns) ≡ true
-unfolding stands
-stands-first name n ns e = rw e
-
-pub stands-other : (name n : List ℕ) (ns : List (List ℕ)) → sameBytes name n ≡ false → stands name (n ∷ ns) ≡ stands name ns
-unfolding stands
-stands-other name n ns e = rw e
-
-stands-more : (name n : List ℕ) (ns : List (List ℕ)) → stands name ns ≡ true → stands name (n ∷ ns) ≡ true
-stands-more name n ns e = split (sameBytes name n) (λ t. stands-first name n ns t) (λ t. stands-other name n ns t ∙ e)
+pub parse-area : {ps : List Pair} (n : ℕ) → Good [] ps → parse (areaOf n ps) ≡ parsed ps
+unfolding areaOf
+parse-area {ps} n g = area-reads (replicate (n - (length (pairsBytes ps) + 1)) 0x00) g
 
 -- ---- the pair of a name, and those before it and after it
 
@@ -93,10 +79,6 @@ module _ (name : List ℕ) (p : Pair) (ps : List Pair) (t : sameBytes name (p .n
   pub lookup-next : lookup name (p ∷ ps) ≡ lookup name ps
   unfolding lookup
   lookup-next = rw (t, lookup)
-
-pub stands-between : (name : List ℕ) (before : List Pair) (p : Pair) (after : List Pair) → name ≡ p .name → stands name (names (before ++ p ∷ after)) ≡ true
-stands-between name [] p after e = stands-first name (p .name) (names after) (ap (sameBytes name) (sym e) ∙ same-refl name)
-stands-between name (q ∷ before) p after e = stands-more name (q .name) (names (before ++ p ∷ after)) (stands-between name before p after e)
 
 same-as : {name other : List ℕ} → name ≡ other → sameBytes name other ≡ true
 same-as {name} e = ap (sameBytes name) (sym e) ∙ same-refl name
@@ -176,29 +158,6 @@ remove-room name (p ∷ ps) =
     split (sameBytes name (p .name))
     (λ t. rw (remove-first name p ps t) (omega (arith, length-pairs p ps)))
     (λ t. rw (remove-next name p ps t) (omega (arith, length-pairs p ps, length-pairs p (removePair name ps), remove-room name ps)))
-
--- the bytes of pairs are those of their names and values
-pub every-left : (P : ℕ → Type 0) (s t : List ℕ) → Every P (s ++ t) → Every P s
-every-left P [] t h = tt
-every-left P (x ∷ s) t h = (h .0, every-left P s t (h .1))
-
-pub every-right : (P : ℕ → Type 0) (s t : List ℕ) → Every P (s ++ t) → Every P t
-every-right P [] t h = h
-every-right P (x ∷ s) t h = every-right P s t (h .1)
-
-pub bytes-pair : (name stored rest : List ℕ) → AllBytes (name ++ 0x3D ∷ (stored ++ 0x00 ∷ rest)) → AllBytes stored × AllBytes rest
-bytes-pair name stored rest h =
-    let k = every-right (λ b. b < 256) name (0x3D ∷ (stored ++ 0x00 ∷ rest)) h .1 in
-    (every-left (λ b. b < 256) stored (0x00 ∷ rest) k, every-right (λ b. b < 256) stored (0x00 ∷ rest) k .1)
-
-pub bytes-pairs : (p : Pair) (ps : List Pair) → AllBytes (pairsBytes (p ∷ ps)) → AllBytes (p .stored) × AllBytes (pairsBytes ps)
-unfolding pairsBytes pairBytes
-bytes-pairs p ps h =
-    let k = every-left (λ b. b < 256) (pairBytes p) (pairsBytes ps) h in
-    (bytes-pair (p .name) (p .stored) [] k .0, every-right (λ b. b < 256) (pairBytes p) (pairsBytes ps) h)
-
-pub bytes-read : {area : List ℕ} {ps : List Pair} → AllBytes area → Read area ps → AllBytes (pairsBytes ps)
-bytes-read {area} {ps} h r = every-left (λ b. b < 256) (pairsBytes ps) (0x00 ∷ r .fill) (rw (r .bytes) at h)
 
 -- ---- bytes stay bytes
 
@@ -309,15 +268,6 @@ module _ (name other : List ℕ) (apart : other ≢ name) where
       split (sameBytes name (p .name))
       (λ t. ap (lookup other) (remove-first name p ps t) ∙ sym (passed p ps t))
       (λ t. ap (lookup other) (remove-next name p ps t) ∙ ahead p (removePair name ps) ps (lookup-remove-other ps))
-
--- a name that was seen does not stand again
-pub good-unseen : {seen : List (List ℕ)} {ps : List Pair} (name : List ℕ) → Good seen ps → stands name seen ≡ true → stands name (names ps) ≡ false
-unfolding stands
-good-unseen name none h = refl
-good-unseen name (more {seen = seen} {p = p} {ps = ps} n v s g) h =
-    split (sameBytes name (p .name))
-    (λ t. clash (cc (same-true name (p .name) t)))
-    (λ t. not-stands name (p .name) (names ps) t (good-unseen name g (stands-more name (p .name) seen h)))
 
 lookup-missing : (name : List ℕ) (ps : List Pair) → stands name (names ps) ≡ false → lookup name ps ≡ missing
 unfolding lookup

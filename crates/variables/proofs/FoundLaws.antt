@@ -19,8 +19,7 @@ use Rattle.variables.specs.Edits.{canonicalPair, setPair, removePair, fo
 use Rattle.variables.specs.Places.{pickPlace, findFrom, findAt}
 use Rattle.variables.proofs.PairPlaces.{pair-here}
 use Rattle.variables.proofs.PairRuns.{PairRun, none, more, pair-bytes, run-bytes}
-use Rattle.variables.proofs.LeavesLaws.{pairs-append}
-use Rattle.variables.proofs.ParseLaws.{length-pair}
+use Rattle.variables.proofs.ParseLaws.{pairs-append, length-pair}
 
 -- l is these pairs, and then the ending 0x00
 pub record Ended (ps : List Pair) (l : List ℕ) : Type 0 where

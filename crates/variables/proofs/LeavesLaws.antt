@@ -16,16 +16,12 @@ use Rattle.values.proofs.CanonicalLaws.{canonical-exactly}
 use Rattle.variables.specs.Area.{Pair, pairOf, pairBytes, pairsBytes, stands, parsed, parse}
 use Rattle.variables.specs.Edits.{areaOf, canonicalPair, setPair, removePair, normalizePairs}
 use Rattle.variables.specs.Rules.{Entry, In, Pairs, Zeroed, zeroed, pairBy, SetLeaves, replaces, adds, RemoveLeaves, removes, CanonicalPairs, NormalizeLeaves, normalizes}
-use Rattle.variables.proofs.ParseLaws.{Read, area-read, read-room, length-area}
-use Rattle.variables.proofs.EditLaws.{names, stands-between, Place, there, nowhere, place, set-there, set-nowhere, remove-there, remove-room, every-left, every-right, bytes-pairs, bytes-read, normalize-room}
+use Rattle.variables.proofs.ParseLaws.{Read, area-read, pairs-append, read-room, every-left, every-right, bytes-pairs, bytes-read}
+use Rattle.variables.proofs.EditLaws.{length-area, Place, there, nowhere, place, set-there, set-nowhere, remove-there, remove-room, normalize-room}
+use Rattle.variables.proofs.StandsLaws.{names, stands-between}
 use Rattle.variables.proofs.EntryLaws.{entriesOf, names-entries, not-in, in-not, Each, good-each, pairs-of, of-pairs, pairs-unique, parse-exactly}
 
 -- ---- lists of pairs
-
-pub pairs-append : (ps qs : List Pair) → pairsBytes (ps ++ qs) ≡ pairsBytes ps ++ pairsBytes qs
-unfolding pairsBytes
-pairs-append [] qs = refl
-pairs-append (p ∷ ps) qs = ap (λ (l : List ℕ). pairBytes p ++ l) (pairs-append ps qs) ∙ sym (append-assoc (pairBytes p) (pairsBytes ps) (pairsBytes qs))
 
 -- a pair between others
 pub pairs-between : (before : List Pair) (p : Pair) (after : List Pair)

@@ -1,7 +1,9 @@
 pub mod ScanLaws
 pub mod ParseLaws
+pub mod StandsLaws
 pub mod EditLaws
 pub mod EntryLaws
+pub mod LookupLaws
 pub mod LeavesLaws
 pub mod FaultLaws
 pub mod ScanPlaces

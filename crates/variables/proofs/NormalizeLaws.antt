@@ -28,8 +28,7 @@ use Rattle.variables.specs.Calls.{normalize, done, refused, wellNamed, c
 use Rattle.variables.specs.Places.{placeOf, scannedOf}
 use Rattle.variables.specs.EditPlaces.{PairMoves, pairRecoded, Parses, normalizedBytes}
 use Rattle.variables.proofs.ScanLaws.{a-pair, stand-end, standing-stand}
-use Rattle.variables.proofs.ParseLaws.{Good, none, more, pair-front, area-read}
-use Rattle.variables.proofs.LeavesLaws.{pairs-append}
+use Rattle.variables.proofs.ParseLaws.{Good, none, more, pair-front, area-read, pairs-append}
 use Rattle.variables.proofs.SpliceLaws.{area-zeros}
 use Rattle.variables.proofs.PairPlaces.{drop-past, past-inside}
 use Rattle.variables.proofs.CallPlaces.{scanned-pairs, scanned-refused}

@@ -1,10 +1,11 @@
 -- Parsing and printing an area: what parses is pairs, and pairs parse.
-use Prim.Native.Nat.{ℕ, zero, suc, _+_, _-_, _≤_, _<_}
+use Prim.Native.Nat.{ℕ, zero, suc, _+_, _≤_, _<_}
 use mathlib.Core.Path.{_≡_, refl, sym, ap, _∙_}
 use mathlib.Core.Bool.{true, false}
 use mathlib.Core.List.{List, [], _∷_, _++_, append-assoc}
 use native.Mathlib.Omega.{arith}
-use lib.ListN.{length, replicate, length-append, length-replicate}
+use lib.ListN.{length, length-append}
+use Rattle.lists.specs.Bytes.{Every, AllBytes}
 use Rattle.lists.proofs.Tests.{split, clash}
 use Rattle.header.specs.declared.Error.{Error}
 use Rattle.header.specs.declared.Error.the-variants.{Repeated}
@@ -12,7 +13,6 @@ use Rattle.names.specs.Rules.{NameRule}
 use Rattle.values.specs.Value.{spelled}
 use Rattle.variables.specs.Scan.{Stand, standAt}
 use Rattle.variables.specs.Area.{Pair, pairOf, pairBytes, pairsBytes, stands, Parse, parsed, faulty, firstPair, pickParse, onStand, parseFrom, parse}
-use Rattle.variables.specs.Edits.{areaOf}
 use Rattle.variables.proofs.ScanLaws.{Standing, a-pair, the-end, cut-name, cut-value, cut-escape, a-wrong-name, a-wrong-escape, standing, standing-stand}
 
 -- pairs as they may stand after the names that were seen
@@ -173,15 +173,32 @@ area-read area ps e = print-parse [] 0 (length area) area ps (sym (parse-start a
 pub read-room : {area : List ℕ} {ps : List Pair} → Read area ps → length (pairsBytes ps) + 1 ≤ length area
 read-room {area} {ps} r = omega (arith, ap length (r .bytes), length-append (pairsBytes ps) (0x00 ∷ r .fill))
 
-pub length-area : (n : ℕ) (ps : List Pair) → length (pairsBytes ps) + 1 ≤ n → length (areaOf n ps) ≡ n
-unfolding areaOf
-length-area n ps h =
-    omega (
-      arith,
-      length-append (pairsBytes ps) (0x00 ∷ replicate (n - (length (pairsBytes ps) + 1)) 0x00),
-      length-replicate {A = ℕ} (n - (length (pairsBytes ps) + 1)) 0x00,
-    )
+-- ---- more pairs, and their bytes
 
-pub parse-area : {ps : List Pair} (n : ℕ) → Good [] ps → parse (areaOf n ps) ≡ parsed ps
-unfolding areaOf
-parse-area {ps} n g = area-reads (replicate (n - (length (pairsBytes ps) + 1)) 0x00) g
+pub pairs-append : (ps qs : List Pair) → pairsBytes (ps ++ qs) ≡ pairsBytes ps ++ pairsBytes qs
+unfolding pairsBytes
+pairs-append [] qs = refl
+pairs-append (p ∷ ps) qs = ap (λ (l : List ℕ). pairBytes p ++ l) (pairs-append ps qs) ∙ sym (append-assoc (pairBytes p) (pairsBytes ps) (pairsBytes qs))
+
+-- the bytes of pairs are those of their names and values
+pub every-left : (P : ℕ → Type 0) (s t : List ℕ) → Every P (s ++ t) → Every P s
+every-left P [] t h = tt
+every-left P (x ∷ s) t h = (h .0, every-left P s t (h .1))
+
+pub every-right : (P : ℕ → Type 0) (s t : List ℕ) → Every P (s ++ t) → Every P t
+every-right P [] t h = h
+every-right P (x ∷ s) t h = every-right P s t (h .1)
+
+pub bytes-pair : (name stored rest : List ℕ) → AllBytes (name ++ 0x3D ∷ (stored ++ 0x00 ∷ rest)) → AllBytes stored × AllBytes rest
+bytes-pair name stored rest h =
+    let k = every-right (λ b. b < 256) name (0x3D ∷ (stored ++ 0x00 ∷ rest)) h .1 in
+    (every-left (λ b. b < 256) stored (0x00 ∷ rest) k, every-right (λ b. b < 256) stored (0x00 ∷ rest) k .1)
+
+pub bytes-pairs : (p : Pair) (ps : List Pair) → AllBytes (pairsBytes (p ∷ ps)) → AllBytes (p .stored) × AllBytes (pairsBytes ps)
+unfolding pairsBytes pairBytes
+bytes-pairs p ps h =
+    let k = every-left (λ b. b < 256) (pairBytes p) (pairsBytes ps) h in
+    (bytes-pair (p .name) (p .stored) [] k .0, every-right (λ b. b < 256) (pairBytes p) (pairsBytes ps) h)
+
+pub bytes-read : {area : List ℕ} {ps : List Pair} → AllBytes area → Read area ps → AllBytes (pairsBytes ps)
+bytes-read {area} {ps} h r = every-left (λ b. b < 256) (pairsBytes ps) (0x00 ∷ r .fill) (rw (r .bytes) at h)

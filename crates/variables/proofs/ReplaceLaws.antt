@@ -23,11 +23,11 @@ use Rattle.variables.specs.Calls as Calls
 use Rattle.variables.specs.Calls.{Outcome, pickOutcome, refuse, edited, done, refused, setIn, callBy, callPairs}
 use Rattle.variables.specs.Places.{scannedOf, findAt}
 use Rattle.variables.specs.EditPlaces.{Used, tailShifted, pickReply, replaceReply, replaceArea}
-use Rattle.variables.proofs.ParseLaws.{area-read, read-room}
-use Rattle.variables.proofs.EditLaws.{names, set-nowhere, lookup-missing-exactly}
+use Rattle.variables.proofs.ParseLaws.{area-read, read-room, pairs-append}
+use Rattle.variables.proofs.StandsLaws.{names}
+use Rattle.variables.proofs.EditLaws.{set-nowhere, lookup-missing-exactly}
 use Rattle.variables.proofs.CallPlaces.{scanned-pairs, scanned-refused, call-misnamed, call-faulty, good-told, wrong-told}
 use Rattle.variables.proofs.SpliceLaws.{pairs-spliced}
-use Rattle.variables.proofs.LeavesLaws.{pairs-append}
 use Rattle.variables.proofs.FoundLaws.{FoundAt, find-found, find-missing, lookup-split, remove-split, set-split}
 
 -- the offset that a scan of the whole area answers

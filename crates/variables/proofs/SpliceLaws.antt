@@ -9,7 +9,7 @@ use Rattle.lists.specs.Pasted.{pasted}
 use Rattle.variables.specs.Area.{Pair, pairBytes, pairsBytes}
 use Rattle.variables.specs.Edits.{areaOf}
 use Rattle.variables.specs.EditPlaces.{tailShifted}
-use Rattle.variables.proofs.LeavesLaws.{pairs-append}
+use Rattle.variables.proofs.ParseLaws.{pairs-append}
 
 -- b: the bytes before, o: the old pair, t: the pairs after it, z: the ending 0x00 and the padding; w: the new pair
 module _ (b o t z : List ℕ) (d : List ℕ) (e : d ≡ b ++ (o ++ (t ++ z))) (w : List ℕ) (room : length b + length w + length t ≤ length d) where
