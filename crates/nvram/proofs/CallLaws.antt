@@ -11,7 +11,7 @@ use Rattle.partitions.specs.declared.Partition.{Partition}
 use Rattle.partitions.specs.declared.Found.{Found}
 use Rattle.partitions.specs.declared.Found.the-variants.{At, Refused}
 use Rattle.partitions.specs.Find.{findOf, areaOf}
-use Rattle.variables.specs.Area.{Pair, Parse, parsed, faulty, parse}
+use Rattle.pairs.specs.Area.{Pair, Parse, parsed, faulty, parse}
 use Rattle.variables.specs.Calls.{Call, lent, wellNamed, Outcome, refuse, callPairs, callArea}
 use Rattle.nvram.specs.Calls.{moved, refusal, answer, Result, callFound, callImage}
 use Rattle.nvram.proofs.AreaInImage.{area-back}

@@ -23,7 +23,7 @@ use Rattle.partitions.specs.Find.{findOf, areaOf}
 use Rattle.partitions.proofs.AreaLaws.{found-part, found-area}
 use Rattle.nvram.specs.declared.Span.{Span}
 use Rattle.nvram.specs.declared.Span.the-variants as Span
-use Rattle.variables.specs.Area.{Pair, pairsBytes, parse}
+use Rattle.pairs.specs.Area.{Pair, pairsBytes, parse}
 use Rattle.variables.specs.Edits.{setPair, Lookup, found, missing, lookup}
 use Rattle.variables.specs.Edits as Edits
 use Rattle.variables.specs.Calls.{Call, set, remove, normalize, read, count, lent, wellNamed, Reply, done, refused, Outcome, refuse, edited, pickOutcome, setIn, removeBy, readBy, callPairs, callArea}
@@ -38,7 +38,7 @@ use Rattle.variables.specs.EditPlaces.{editReply}
 use Rattle.names.specs.declared.NameCheck.the-variants.{Good, Wrong}
 use Rattle.names.specs.Name.{nameCheck, goodName}
 use Rattle.variables.proofs.CallPlaces.{good-told, wrong-told, call-misnamed, call-faulty, call-parsed}
-use Rattle.variables.proofs.FaultLaws.{fault-inside}
+use Rattle.pairs.proofs.FaultLaws.{fault-inside}
 use Rattle.nvram.specs.Calls.{moved, refusal, answer, Result, callImage, areaSpan, countAnswer, readAnswer, editAnswer, replyOffset, nameFirst}
 use Rattle.nvram.proofs.CallLaws.{splitFound, splitParse, image-ill-named, image-refused, call-image, image-unfound}
 use Rattle.nvram.specs.Table.{common}

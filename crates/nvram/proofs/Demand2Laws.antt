@@ -42,13 +42,14 @@ use Rattle.names.specs.Name.{goodName}
 use Rattle.names.specs.Rules.{NameRule}
 use Rattle.names.proofs.NameLaws.{good-name-exactly}
 use Rattle.values.proofs.EncodeLaws.{encode-shortest}
-use Rattle.variables.specs.Area.{Pair, pairsBytes, stands, parsed, parse}
+use Rattle.pairs.specs.Area.{Pair, pairsBytes, stands, parsed, parse}
 use Rattle.variables.specs.Edits.{areaOf as written, setPair, found, lookup}
-use Rattle.variables.specs.Rules.{Entry, Holds, WellFormed}
+use Rattle.pairs.specs.Rules.{Entry, WellFormed}
+use Rattle.variables.specs.Rules.{Holds}
 use Rattle.variables.specs.Calls.{set, read, wellNamed, done, Outcome, refuse, edited, setIn, callPairs, callArea}
-use Rattle.variables.proofs.ParseLaws.{Good, area-read}
+use Rattle.pairs.proofs.ParseLaws.{Good, area-read}
 use Rattle.variables.proofs.EditLaws.{length-area, parse-area, lookup-next, good-set, lookup-set}
-use Rattle.variables.proofs.EntryLaws.{parse-exactly}
+use Rattle.pairs.proofs.EntryLaws.{parse-exactly}
 use Rattle.variables.proofs.LookupLaws.{found-exactly}
 use Rattle.nvram.specs.Calls.{Answer, moved, answer, Result, callImage}
 use Rattle.nvram.specs.Table.{common}

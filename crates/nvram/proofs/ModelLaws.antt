@@ -10,12 +10,12 @@ use Rattle.lists.specs.Bytes.{sameBytes}
 use Rattle.lists.proofs.Tests.{split}
 use Rattle.values.specs.Value.{decode, encode}
 use Rattle.values.proofs.EncodeLaws.{decode-encode}
-use Rattle.variables.specs.Area.{Pair, pairsBytes}
+use Rattle.pairs.specs.Area.{Pair, pairsBytes}
 use Rattle.variables.specs.Edits.{areaOf, canonicalPair, setPair, removePair, normalizePairs, Lookup, found, missing, lookup}
-use Rattle.variables.specs.Rules.{Entry}
-use Rattle.variables.proofs.ParseLaws.{length-pair, length-pairs, pair-front}
+use Rattle.pairs.specs.Rules.{Entry}
+use Rattle.pairs.proofs.ParseLaws.{length-pair, length-pairs, pair-front}
 use Rattle.variables.proofs.EditLaws.{set-first, set-next, remove-first, remove-next, lookup-first, lookup-next}
-use Rattle.variables.proofs.EntryLaws.{entryOf, entriesOf}
+use Rattle.pairs.proofs.EntryLaws.{entryOf, entriesOf}
 use Rattle.nvram.specs.Model.{same, newEntry, total, setEntry, dropEntry, newSizes, Value, some, none, valueOf, canonicalBytes, canonicalArea}
 
 -- ---- names

@@ -18,10 +18,10 @@ use Rattle.values.specs.Value.{run, runByte, decode, spelled, runBytes, escaped
 use Rattle.values.proofs.DecodeLaws.{length-run, decode-none, decode-plain, decode-escape, plain-spelled, escape-spelled, cut-spelled}
 use Rattle.values.proofs.EncodeLaws.{cost, length-run-bytes, encode-none, encode-plain}
 use Rattle.values.proofs.RecodeLaws.{run-same, run-other}
-use Rattle.variables.specs.Area.{Pair, pairsBytes, parsed, faulty, parse}
+use Rattle.pairs.specs.Area.{Pair, pairsBytes, parsed, faulty, parse}
 use Rattle.variables.specs.Edits.{areaOf as written, canonicalPair, normalizePairs}
 use Rattle.variables.specs.Calls.{normalize, wellNamed, Outcome, callPairs, callArea}
-use Rattle.variables.proofs.ParseLaws.{Good, length-pairs, area-read, read-room}
+use Rattle.pairs.proofs.ParseLaws.{Good, length-pairs, area-read, read-room}
 use Rattle.variables.proofs.EditLaws.{length-area, parse-area, good-normalize, normalize-twice as pairs-twice}
 use Rattle.nvram.specs.Calls.{Result, callImage}
 use Rattle.nvram.proofs.AreaInImage.{area-back, find-kept, area-new}

@@ -19,11 +19,11 @@ use Rattle.partitions.specs.Examples.{E}
 use Rattle.partitions.proofs.FoundLaws.{find-first}
 use Rattle.names.specs.Name.{nameByte}
 use Rattle.values.specs.Value.{decode, decodeFrom, run, runByte}
-use Rattle.variables.specs.Scan.{scanName, scanValue, standAt}
-use Rattle.variables.specs.Area.{pairOf, pairBytes, stands, parseFrom, parse}
-use Rattle.variables.specs.Rules.{Entry, WellFormed}
+use Rattle.pairs.specs.Scan.{scanName, scanValue, standAt}
+use Rattle.pairs.specs.Area.{pairOf, pairBytes, stands, parseFrom, parse}
+use Rattle.pairs.specs.Rules.{Entry, WellFormed}
 use Rattle.variables.specs.Calls.{Call}
-use Rattle.variables.proofs.EntryLaws.{parse-exactly}
+use Rattle.pairs.proofs.EntryLaws.{parse-exactly}
 use Rattle.nvram.specs.Table.{Request, common}
 use Rattle.nvram.specs.Demands.{RequestBytes, CallsBytes, Demand1, Demand2, Demand3}
 use Rattle.nvram.proofs.DemandsLaws.{demands}

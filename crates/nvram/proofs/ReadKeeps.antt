@@ -8,7 +8,7 @@ use Rattle.lists.specs.Pasted.{pasted}
 use Rattle.lists.proofs.Tests.{split}
 use Rattle.partitions.specs.declared.Found.the-variants.{At}
 use Rattle.partitions.specs.Find.{findOf, areaOf}
-use Rattle.variables.specs.Area.{Parse, parsed, faulty, parse}
+use Rattle.pairs.specs.Area.{Parse, parsed, faulty, parse}
 use Rattle.variables.specs.Edits.{Lookup, found, missing, lookup}
 use Rattle.variables.specs.Calls.{Call, read, count, wellNamed, readBy, callPairs, callBy, callArea}
 use Rattle.nvram.specs.Calls.{Result, callImage}

@@ -23,13 +23,13 @@ use Rattle.names.specs.Name.{goodName}
 use Rattle.names.proofs.NameLaws.{good-name-exactly}
 use Rattle.values.specs.Value.{decode}
 use Rattle.values.proofs.EncodeLaws.{decode-encode}
-use Rattle.variables.specs.Area.{Pair, pairsBytes, stands, parsed, parse}
+use Rattle.pairs.specs.Area.{Pair, pairsBytes, stands, parsed, parse}
 use Rattle.variables.specs.Edits.{areaOf as written, canonicalPair, setPair, removePair, normalizePairs, Lookup, found, missing, lookup}
-use Rattle.variables.specs.Rules.{Entry, WellFormed}
+use Rattle.pairs.specs.Rules.{Entry, WellFormed}
 use Rattle.variables.specs.Calls.{Call, set, remove, normalize, read, count, wellNamed, Reply, done, refused, Outcome, edited, setIn, removeBy, readBy, callPairs, callArea}
-use Rattle.variables.proofs.ParseLaws.{Good, area-read, read-room, bytes-read}
+use Rattle.pairs.proofs.ParseLaws.{Good, area-read, read-room, bytes-read}
 use Rattle.variables.proofs.EditLaws.{length-area, parse-area, set-first, set-next, remove-first, remove-next, good-set, good-remove, good-normalize, remove-room, bytes-set, bytes-remove, bytes-normalize, bytes-area, normalize-room, normalize-twice}
-use Rattle.variables.proofs.EntryLaws.{entriesOf, parse-exactly}
+use Rattle.pairs.proofs.EntryLaws.{entriesOf, parse-exactly}
 use Rattle.nvram.specs.Calls.{Answer, moved, answer, Result, callImage, Results, runImage}
 use Rattle.nvram.specs.Model.{Model, total, setEntry, dropEntry, newSizes, Value, valueOf, Stepped, says, keeps, becomes, removeStep, readStep, step, Run, run, canonicalArea}
 use Rattle.nvram.specs.Table.{common}

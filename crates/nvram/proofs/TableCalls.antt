@@ -12,14 +12,14 @@ use Rattle.header.specs.declared.Error.the-variants.{ImageLength, NoPartition, 
 use Rattle.header.specs.Errors.{codeOf, offsetOf}
 use Rattle.header.specs.Rules.{Breaks}
 use Rattle.partitions.specs.Cover.{areaAt, Rejected}
-use Rattle.variables.specs.Area.{Pair, pairsBytes, Parse, parsed, faulty, parse}
+use Rattle.pairs.specs.Area.{Pair, pairsBytes, Parse, parsed, faulty, parse}
 use Rattle.variables.specs.Edits.{setPair}
-use Rattle.variables.specs.Rules.{Entry, FaultAt}
+use Rattle.pairs.specs.Rules.{Entry, FaultAt}
 use Rattle.variables.specs.Calls.{Call, set, remove, read, callPairs, callBy}
-use Rattle.variables.proofs.EntryLaws.{entriesOf, parse-exactly}
+use Rattle.pairs.proofs.EntryLaws.{entriesOf, parse-exactly}
 use Rattle.variables.proofs.LookupLaws.{found-exactly, missing-exactly, set-size-exactly}
 use Rattle.variables.proofs.LeavesLaws.{set-leaves-exactly, remove-leaves-exactly, normalize-leaves-exactly}
-use Rattle.variables.proofs.FaultLaws.{faulty-exactly}
+use Rattle.pairs.proofs.FaultLaws.{faulty-exactly}
 use Rattle.nvram.specs.Calls.{moved}
 use Rattle.nvram.specs.Table.{Request, variable, Seen, refuses, answers, by-set, by-remove, AtPair, Answers}
 use Rattle.nvram.specs.Demands.{seen, RequestBytes}

@@ -17,17 +17,17 @@ use Rattle.partitions.specs.declared.Found.the-variants.{At, Refused}
 use Rattle.partitions.specs.Find.{findOf}
 use Rattle.partitions.specs.Cover.{areaAt}
 use Rattle.partitions.proofs.FoundLaws.{find-first}
-use Rattle.variables.specs.Area.{Pair, pairsBytes, stands, Parse, parsed, faulty, parse}
+use Rattle.pairs.specs.Area.{Pair, pairsBytes, stands, Parse, parsed, faulty, parse}
 use Rattle.variables.specs.Edits.{areaOf, setPair, removePair, normalizePairs, Lookup, found, missing, lookup}
-use Rattle.variables.specs.Rules.{Entry, Pairs, Once, FaultAt}
+use Rattle.pairs.specs.Rules.{Entry, Pairs, Once, FaultAt}
 use Rattle.variables.specs.Calls.{Call, set, remove, normalize, read, count, wellNamed, callPairs, callBy}
-use Rattle.variables.proofs.ParseLaws.{area-read, read-room, bytes-read}
+use Rattle.pairs.proofs.ParseLaws.{area-read, read-room, bytes-read}
 use Rattle.variables.proofs.EditLaws.{length-area, lookup-missing-exactly, remove-room, normalize-room}
-use Rattle.variables.proofs.StandsLaws.{names}
-use Rattle.variables.proofs.EntryLaws.{entriesOf, parse-exactly}
+use Rattle.pairs.proofs.StandsLaws.{names}
+use Rattle.pairs.proofs.EntryLaws.{entriesOf, parse-exactly}
 use Rattle.variables.proofs.LookupLaws.{found-exactly, missing-exactly, set-size-exactly}
 use Rattle.variables.proofs.LeavesLaws.{set-leaves-exactly, remove-leaves-exactly, normalize-leaves-exactly}
-use Rattle.variables.proofs.FaultLaws.{faulty-exactly}
+use Rattle.pairs.proofs.FaultLaws.{faulty-exactly}
 use Rattle.nvram.specs.Calls.{moved}
 use Rattle.nvram.specs.Table.{Request, variable, check, partition, find, area, common, Seen, refuses, answers, WellNamed, by-set, by-remove, AtPair, Answers}
 use Rattle.nvram.specs.Demands.{seen, CallBytes, RequestBytes}

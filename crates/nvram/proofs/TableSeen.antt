@@ -15,8 +15,8 @@ use Rattle.partitions.specs.declared.Found.the-variants.{At}
 use Rattle.partitions.specs.Find.{findOf, areaOf}
 use Rattle.partitions.specs.Cover.{areaAt}
 use Rattle.partitions.proofs.FoundLaws.{find-first}
-use Rattle.variables.specs.Rules.{Entry}
-use Rattle.variables.specs.Area.{Pair, pairsBytes, parse}
+use Rattle.pairs.specs.Rules.{Entry}
+use Rattle.pairs.specs.Area.{Pair, pairsBytes, parse}
 use Rattle.variables.specs.Edits.{setPair, removePair, normalizePairs, found, missing, lookup}
 use Rattle.variables.specs.Calls.{Call, set, remove, normalize, read, count, wellNamed, done, Outcome, refuse, edited, setIn, callPairs, callBy, callArea}
 use Rattle.nvram.specs.Calls.{answer, refusal, moved}

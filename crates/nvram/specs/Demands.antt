@@ -15,7 +15,8 @@ use Rattle.partitions.specs.Answers.{checkAnswer, findAnswer}
 use Rattle.partitions.specs.Cover.{Counted, FirstNamed, areaAt}
 use Rattle.values.specs.Rules.{Spells}
 use Rattle.values.specs.Value.{encode}
-use Rattle.variables.specs.Rules.{Entry, Holds, WellFormed}
+use Rattle.pairs.specs.Rules.{Entry, WellFormed}
+use Rattle.variables.specs.Rules.{Holds}
 use Rattle.variables.specs.Calls.{Call, set, remove, normalize, read, count}
 use Rattle.nvram.specs.Calls.{Answer, callImage, runImage}
 use Rattle.nvram.specs.Model.{Model, run, canonicalArea}

@@ -14,8 +14,8 @@ use Rattle.partitions.specs.Find.{checkedBy, checkOf, padded, matches, firstMat
 use Rattle.partitions.specs.Examples.{E, common, freeSpace}
 use Rattle.names.specs.Name.{nameByte, nameCheckFrom, nameCheck, goodName}
 use Rattle.values.specs.Value.{runByte, run, decodeFrom, decode, mark, fullEscapes, restEscape, runBytes, encodeFrom, encode}
-use Rattle.variables.specs.Scan.{scanName, scanValue, standAt}
-use Rattle.variables.specs.Area.{pairBytes, pairsBytes, stands, parseFrom, parse}
+use Rattle.pairs.specs.Scan.{scanName, scanValue, standAt}
+use Rattle.pairs.specs.Area.{pairBytes, pairsBytes, stands, parseFrom, parse}
 use Rattle.variables.specs.Edits.{setPair, normalizePairs, lookup}
 use Rattle.variables.specs.Calls.{set, read, normalize, count, wellNamed, setIn, callPairs, callArea}
 use Rattle.nvram.specs.Calls.{Answer, moved, callImage}

@@ -6,7 +6,7 @@ use lib.ListN.{length, drop, replicate}
 use lib.Dec.{ltb, eqb}
 use Rattle.names.specs.Name.{goodName}
 use Rattle.values.specs.Value.{encode}
-use Rattle.variables.specs.Rules.{Entry}
+use Rattle.pairs.specs.Rules.{Entry}
 use Rattle.variables.specs.Calls.{Call, set, remove, normalize, read, count}
 use Rattle.nvram.specs.Calls.{Answer}
 

@@ -12,7 +12,8 @@ use Rattle.partitions.specs.declared.Partition.{Partition}
 use Rattle.partitions.specs.Cover.{LengthRule, Cover, Counted, FirstNamed, NotNamed, Indexed, NotIndexed, areaAt}
 use Rattle.names.specs.Rules.{NameByte, NameRule}
 use Rattle.values.specs.Rules.{Spells}
-use Rattle.variables.specs.Rules.{Entry, In, sizes, Pairs, Once, BadByte, CutOff, Holds, SetSize, SetLeaves, RemoveLeaves, NormalizeLeaves}
+use Rattle.pairs.specs.Rules.{Entry, In, sizes, Pairs, Once, BadByte, CutOff}
+use Rattle.variables.specs.Rules.{Holds, SetSize, SetLeaves, RemoveLeaves, NormalizeLeaves}
 use Rattle.variables.specs.Calls.{Call, set, remove, normalize, read, count}
 
 -- what a caller may ask of an image

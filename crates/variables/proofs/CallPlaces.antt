@@ -15,15 +15,16 @@ use Rattle.names.specs.Name.{nameCheck, isGood, goodName}
 use Rattle.values.specs.declared.Written.the-variants.{Length, NoRoom}
 use Rattle.values.specs.Value.{decode, part, writtenOf, writtenIn}
 use Rattle.values.proofs.WrittenLaws.{length-told, fits-told, no-room-told, pasted-in, kept-in}
-use Rattle.variables.specs.declared.Scanned.the-variants.{Pairs, Refused}
-use Rattle.variables.specs.declared.Place.{Place}
-use Rattle.variables.specs.declared.Place.the-variants.{At, None}
-use Rattle.variables.specs.Scan.{Stand, pair, finish, cut, wrongName, wrongEscape, standAt}
-use Rattle.variables.specs.Area.{Pair, pairsBytes, Parse, parsed, faulty, parse}
+use Rattle.pairs.specs.declared.Scanned.the-variants.{Pairs, Refused}
+use Rattle.pairs.specs.declared.Place.{Place}
+use Rattle.pairs.specs.declared.Place.the-variants.{At, None}
+use Rattle.pairs.specs.Scan.{Stand, pair, finish, cut, wrongName, wrongEscape, standAt}
+use Rattle.pairs.specs.Area.{Pair, pairsBytes, Parse, parsed, faulty, parse}
 use Rattle.variables.specs.Edits.{Lookup, found, missing, lookup}
 use Rattle.variables.specs.Calls.{Call, count, read, Reply, done, refused, Outcome, refuse, wellNamed, readBy, callPairs, callArea}
-use Rattle.variables.specs.Places.{scannedOf, onFind, findFrom, findAt, Sought, valueAt, pairRead}
-use Rattle.variables.proofs.PairPlaces.{pair-here}
+use Rattle.pairs.specs.Places.{scannedOf, onFind, findFrom, findAt}
+use Rattle.variables.specs.Places.{Sought, valueAt, pairRead}
+use Rattle.pairs.proofs.PairPlaces.{pair-here}
 use Rattle.variables.proofs.FoundLaws.{parsed-ended, FoundAt, find-found, find-missing, lookup-split, found-stored}
 
 -- ---- the area's parse, by the code's scan

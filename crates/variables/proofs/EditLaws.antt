@@ -14,10 +14,10 @@ use Rattle.names.specs.Rules.{NameByte, NameRule}
 use Rattle.values.specs.Value.{decode}
 use Rattle.values.proofs.DecodeLaws.{spells-exactly, bytes-decode}
 use Rattle.values.proofs.EncodeLaws.{decode-encode, encode-again, spelled-encode, bytes-encode, encode-shortest}
-use Rattle.variables.specs.Area.{Pair, pairOf, pairBytes, pairsBytes, stands, parsed, parse}
+use Rattle.pairs.specs.Area.{Pair, pairOf, pairBytes, pairsBytes, stands, parsed, parse}
 use Rattle.variables.specs.Edits.{areaOf, canonicalPair, setPair, removePair, normalizePairs, found, missing, lookup}
-use Rattle.variables.proofs.ParseLaws.{Good, none, more, length-pairs, area-reads, bytes-pairs}
-use Rattle.variables.proofs.StandsLaws.{names, stands-not, not-stands, stands-first, good-unseen}
+use Rattle.pairs.proofs.ParseLaws.{Good, none, more, length-pairs, area-reads, bytes-pairs}
+use Rattle.pairs.proofs.StandsLaws.{names, stands-not, not-stands, stands-first, good-unseen}
 
 -- ---- the area that is written
 

@@ -11,15 +11,15 @@ use Rattle.lists.proofs.Tests.{split, clash}
 use Rattle.header.specs.declared.Error.the-variants.{Repeated}
 use Rattle.repeats.specs.Pieces.{stands}
 use Rattle.values.specs.Value.{decode, part}
-use Rattle.variables.specs.declared.Place.{Place}
-use Rattle.variables.specs.declared.Place.the-variants.{At, None}
-use Rattle.variables.specs.Scan.{Stand, pair, finish, cut, wrongName, wrongEscape, standAt}
-use Rattle.variables.specs.Area.{Pair, pairOf, pairBytes, pairsBytes, Parse, parsed, faulty, firstPair, onStand, parseFrom, parse}
+use Rattle.pairs.specs.declared.Place.{Place}
+use Rattle.pairs.specs.declared.Place.the-variants.{At, None}
+use Rattle.pairs.specs.Scan.{Stand, pair, finish, cut, wrongName, wrongEscape, standAt}
+use Rattle.pairs.specs.Area.{Pair, pairOf, pairBytes, pairsBytes, Parse, parsed, faulty, firstPair, onStand, parseFrom, parse}
 use Rattle.variables.specs.Edits.{canonicalPair, setPair, removePair, found, missing, lookup}
-use Rattle.variables.specs.Places.{pickPlace, findFrom, findAt}
-use Rattle.variables.proofs.PairPlaces.{pair-here}
-use Rattle.variables.proofs.PairRuns.{PairRun, none, more, pair-bytes, run-bytes}
-use Rattle.variables.proofs.ParseLaws.{pairs-append, length-pair}
+use Rattle.pairs.specs.Places.{pickPlace, findFrom, findAt}
+use Rattle.pairs.proofs.PairPlaces.{pair-here}
+use Rattle.pairs.proofs.PairRuns.{PairRun, none, more, pair-bytes, run-bytes}
+use Rattle.pairs.proofs.ParseLaws.{pairs-append, length-pair}
 
 -- l is these pairs, and then the ending 0x00
 pub record Ended (ps : List Pair) (l : List ℕ) : Type 0 where

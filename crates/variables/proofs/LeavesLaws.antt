@@ -13,13 +13,14 @@ use Rattle.values.specs.Value.{decode, encode}
 use Rattle.values.specs.Rules.{Spells, Canonical}
 use Rattle.values.proofs.DecodeLaws.{spells-exactly, spells-spelled, bytes-decode}
 use Rattle.values.proofs.CanonicalLaws.{canonical-exactly}
-use Rattle.variables.specs.Area.{Pair, pairOf, pairBytes, pairsBytes, stands, parsed, parse}
+use Rattle.pairs.specs.Area.{Pair, pairOf, pairBytes, pairsBytes, stands, parsed, parse}
 use Rattle.variables.specs.Edits.{areaOf, canonicalPair, setPair, removePair, normalizePairs}
-use Rattle.variables.specs.Rules.{Entry, In, Pairs, Zeroed, zeroed, pairBy, SetLeaves, replaces, adds, RemoveLeaves, removes, CanonicalPairs, NormalizeLeaves, normalizes}
-use Rattle.variables.proofs.ParseLaws.{Read, area-read, pairs-append, read-room, every-left, every-right, bytes-pairs, bytes-read}
+use Rattle.pairs.specs.Rules.{Entry, In, Pairs}
+use Rattle.variables.specs.Rules.{Zeroed, zeroed, pairBy, SetLeaves, replaces, adds, RemoveLeaves, removes, CanonicalPairs, NormalizeLeaves, normalizes}
+use Rattle.pairs.proofs.ParseLaws.{Read, area-read, pairs-append, read-room, every-left, every-right, bytes-pairs, bytes-read}
 use Rattle.variables.proofs.EditLaws.{length-area, Place, there, nowhere, place, set-there, set-nowhere, remove-there, remove-room, normalize-room}
-use Rattle.variables.proofs.StandsLaws.{names, stands-between}
-use Rattle.variables.proofs.EntryLaws.{entriesOf, names-entries, not-in, in-not, Each, good-each, pairs-of, of-pairs, pairs-unique, parse-exactly}
+use Rattle.pairs.proofs.StandsLaws.{names, stands-between}
+use Rattle.pairs.proofs.EntryLaws.{entriesOf, names-entries, not-in, in-not, Each, good-each, pairs-of, of-pairs, pairs-unique, parse-exactly}
 
 -- ---- lists of pairs
 

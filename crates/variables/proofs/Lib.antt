@@ -1,16 +1,6 @@
-pub mod ScanLaws
-pub mod ParseLaws
-pub mod StandsLaws
 pub mod EditLaws
-pub mod EntryLaws
 pub mod LookupLaws
 pub mod LeavesLaws
-pub mod FaultLaws
-pub mod ScanPlaces
-pub mod PairPlaces
-pub mod PairRuns
-pub mod JoinLaws
-pub mod FindPlaces
 pub mod FoundLaws
 pub mod CallPlaces
 pub mod PutLaws

@@ -10,11 +10,12 @@ use Rattle.lists.proofs.Tests.{split}
 use Rattle.lists.proofs.ByteLaws.{same-true, same-not}
 use Rattle.values.specs.Value.{encode}
 use Rattle.values.proofs.EncodeLaws.{spells-encode, encode-shortest}
-use Rattle.variables.specs.Area.{Pair, pairBytes, pairsBytes}
+use Rattle.pairs.specs.Area.{Pair, pairBytes, pairsBytes}
 use Rattle.variables.specs.Edits.{canonicalPair, setPair, Lookup, found, missing, lookup}
-use Rattle.variables.specs.Rules.{Entry, In, sizes, Holds, this, other, Shortest, SetSize, added, replaced, kept}
-use Rattle.variables.proofs.ParseLaws.{length-pair, length-pairs}
-use Rattle.variables.proofs.EntryLaws.{entriesOf, sizes-pairs}
+use Rattle.pairs.specs.Rules.{Entry, In, sizes}
+use Rattle.variables.specs.Rules.{Holds, this, other, Shortest, SetSize, added, replaced, kept}
+use Rattle.pairs.proofs.ParseLaws.{length-pair, length-pairs}
+use Rattle.pairs.proofs.EntryLaws.{entriesOf, sizes-pairs}
 use Rattle.variables.proofs.EditLaws.{set-first, set-next, lookup-first, lookup-next}
 
 -- ---- the value of a name

@@ -17,20 +17,20 @@ use Rattle.values.specs.declared.Written.the-variants.{Length, NoRoom}
 use Rattle.values.specs.Value.{spelled, decode, encode, part, recoded, recodedOf, recodedIn}
 use Rattle.values.proofs.RecodeLaws.{Recodable, recoded-taken, recoded-short}
 use Rattle.header.specs.declared.Error.{Error}
-use Rattle.variables.specs.declared.PairAt.{PairAt}
-use Rattle.variables.specs.declared.PairAt.the-variants as PairAt
-use Rattle.variables.specs.declared.Scanned.the-variants as Scanned
-use Rattle.variables.specs.declared.Place.{Place}
-use Rattle.variables.specs.Scan.{pair, finish, standAt}
-use Rattle.variables.specs.Area.{Pair, pairBytes, pairsBytes, Parse, parsed, faulty, parse}
-use Rattle.variables.specs.Edits.{areaOf, canonicalPair, normalizePairs}
+use Rattle.pairs.specs.declared.PairAt.{PairAt}
+use Rattle.pairs.specs.declared.PairAt.the-variants as PairAt
+use Rattle.pairs.specs.declared.Scanned.the-variants as Scanned
+use Rattle.pairs.specs.declared.Place.{Place}
+use Rattle.pairs.specs.Scan.{pair, standAt}
+use Rattle.pairs.specs.Area.{Pair, pairBytes, pairsBytes, Parse, parsed, parse}
+use Rattle.variables.specs.Edits.{canonicalPair, normalizePairs}
 use Rattle.variables.specs.Calls.{normalize, done, refused, wellNamed, callPairs, callArea}
-use Rattle.variables.specs.Places.{placeOf, scannedOf}
+use Rattle.pairs.specs.Places.{placeOf, scannedOf}
 use Rattle.variables.specs.EditPlaces.{PairMoves, pairRecoded, Parses, normalizedBytes}
-use Rattle.variables.proofs.ScanLaws.{a-pair, stand-end, standing-stand}
-use Rattle.variables.proofs.ParseLaws.{Good, none, more, pair-front, area-read, pairs-append}
+use Rattle.pairs.proofs.ScanLaws.{a-pair, stand-end, standing-stand}
+use Rattle.pairs.proofs.ParseLaws.{Good, none, more, pair-front, area-read}
 use Rattle.variables.proofs.SpliceLaws.{area-zeros}
-use Rattle.variables.proofs.PairPlaces.{drop-past, past-inside}
+use Rattle.pairs.proofs.PairPlaces.{drop-past, past-inside}
 use Rattle.variables.proofs.CallPlaces.{scanned-pairs, scanned-refused}
 
 -- ---- one pair: d is the area before, d₁ with the name moved, d₂ with the value made canonical

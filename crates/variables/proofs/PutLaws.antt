@@ -9,7 +9,7 @@ use lib.Seq.{length-take-le}
 use Rattle.lists.specs.Pasted.{pasted, movedBytes}
 use Rattle.lists.proofs.PastedLaws.{length-pasted, pasted-more, pasted-last, set-after}
 use Rattle.lists.proofs.MoveLaws.{moved-inside, part-filled}
-use Rattle.variables.specs.Area.{pairOf, pairBytes}
+use Rattle.pairs.specs.Area.{pairOf, pairBytes}
 use Rattle.variables.specs.EditPlaces.{tailShifted}
 
 -- a piece, and one byte right after it

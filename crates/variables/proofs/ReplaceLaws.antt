@@ -1,30 +1,28 @@
 -- What the edits by offsets leave is what the edits of the pairs say.
 use Prim.Native.Nat.{ℕ, _+_, _-_, _≤_, _<_}
-use mathlib.Core.Path.{_≡_, refl, sym, ap, _∙_}
-use mathlib.Core.Bool.{Bool, true, false}
+use mathlib.Core.Path.{_≡_, sym, ap, _∙_}
 use mathlib.Core.List.{List, [], _∷_, _++_, append-assoc, append-nil}
 use native.Mathlib.Omega.{arith}
 use lib.Dec.{ltb}
 use lib.ListN.{length, length-append}
 use borrow.Author.Tests.{lt-ltb, le-ltb, ltb-true, ltb-false}
-use Rattle.lists.specs.Pasted.{pasted, pickList}
+use Rattle.lists.specs.Pasted.{pasted}
 use Rattle.lists.proofs.Tests.{split}
 use Rattle.lists.proofs.PastedLaws.{pasted-none}
 use Rattle.header.specs.declared.Error.{Error}
 use Rattle.header.specs.declared.Error.the-variants.{NoRoom, NoVariable, BadName}
 use Rattle.names.specs.declared.NameCheck.the-variants.{Good, Wrong}
 use Rattle.names.specs.Name.{nameCheck, goodName}
-use Rattle.variables.specs.declared.Scanned.the-variants as Scanned
-use Rattle.variables.specs.declared.Place.{Place}
-use Rattle.variables.specs.declared.Place.the-variants.{At, None}
-use Rattle.variables.specs.Area.{Pair, pairOf, pairBytes, pairsBytes, Parse, parse, parsed, faulty}
+use Rattle.pairs.specs.declared.Scanned.the-variants as Scanned
+use Rattle.pairs.specs.declared.Place.{Place}
+use Rattle.pairs.specs.declared.Place.the-variants.{At, None}
+use Rattle.pairs.specs.Area.{Pair, pairOf, pairBytes, pairsBytes, Parse, parse}
 use Rattle.variables.specs.Edits.{areaOf, canonicalPair, setPair, removePair, Lookup, lookup, found, missing}
 use Rattle.variables.specs.Calls as Calls
 use Rattle.variables.specs.Calls.{Outcome, pickOutcome, refuse, edited, done, refused, setIn, callBy, callPairs}
-use Rattle.variables.specs.Places.{scannedOf, findAt}
-use Rattle.variables.specs.EditPlaces.{Used, tailShifted, pickReply, replaceReply, replaceArea}
-use Rattle.variables.proofs.ParseLaws.{area-read, read-room, pairs-append}
-use Rattle.variables.proofs.StandsLaws.{names}
+use Rattle.pairs.specs.Places.{scannedOf, findAt}
+use Rattle.variables.specs.EditPlaces.{Used, tailShifted, replaceReply, replaceArea}
+use Rattle.pairs.proofs.ParseLaws.{area-read, read-room, pairs-append}
 use Rattle.variables.proofs.EditLaws.{set-nowhere, lookup-missing-exactly}
 use Rattle.variables.proofs.CallPlaces.{scanned-pairs, scanned-refused, call-misnamed, call-faulty, good-told, wrong-told}
 use Rattle.variables.proofs.SpliceLaws.{pairs-spliced}

@@ -1,15 +1,15 @@
 -- A pair replaced, added or taken out: the bytes before it, the new pair, the pairs after it, and 0x00 to the end.
-use Prim.Native.Nat.{ℕ, suc, zero, _+_, _-_, _≤_, _<_}
+use Prim.Native.Nat.{ℕ, suc, zero, _+_, _-_, _≤_}
 use mathlib.Core.Path.{_≡_, refl, sym, ap, _∙_}
-use mathlib.Core.List.{List, [], _∷_, _++_, append-assoc, append-nil}
+use mathlib.Core.List.{List, [], _∷_, _++_, append-assoc}
 use native.Mathlib.Omega.{arith}
 use lib.ListN.{length, take, drop, replicate, length-append}
 use lib.Seq.{take-at, drop-at, take-append-le, take-take, length-take-le}
 use Rattle.lists.specs.Pasted.{pasted}
-use Rattle.variables.specs.Area.{Pair, pairBytes, pairsBytes}
+use Rattle.pairs.specs.Area.{Pair, pairsBytes}
 use Rattle.variables.specs.Edits.{areaOf}
 use Rattle.variables.specs.EditPlaces.{tailShifted}
-use Rattle.variables.proofs.ParseLaws.{pairs-append}
+use Rattle.pairs.proofs.ParseLaws.{pairs-append}
 
 -- b: the bytes before, o: the old pair, t: the pairs after it, z: the ending 0x00 and the padding; w: the new pair
 module _ (b o t z : List ℕ) (d : List ℕ) (e : d ≡ b ++ (o ++ (t ++ z))) (w : List ℕ) (room : length b + length w + length t ≤ length d) where

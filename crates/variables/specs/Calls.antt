@@ -8,7 +8,7 @@ use Rattle.lists.specs.Pasted.{pasted}
 use Rattle.header.specs.declared.Error.{Error}
 use Rattle.header.specs.declared.Error.the-variants.{BadName, NoVariable, NoRoom, ShortBuffer}
 use Rattle.names.specs.Name.{goodName}
-use Rattle.variables.specs.Area.{Pair, pairsBytes, Parse, parsed, faulty, parse}
+use Rattle.pairs.specs.Area.{Pair, pairsBytes, Parse, parsed, faulty, parse}
 use Rattle.variables.specs.Edits.{areaOf, setPair, removePair, normalizePairs, Lookup, found, missing, lookup}
 
 -- a call with its name and value; a read has the buffer as it was lent

@@ -10,7 +10,7 @@ use Rattle.header.specs.declared.Error.the-variants.{NoRoom}
 use Rattle.variables.specs.declared.Edited.{Edited}
 use Rattle.variables.specs.declared.Edited.the-variants as Edited
 use Rattle.values.specs.Value.{spelled, part, recoded}
-use Rattle.variables.specs.Area.{Pair, pairsBytes, Parse, parse, parsed, faulty}
+use Rattle.pairs.specs.Area.{Pair, pairsBytes, Parse, parse, parsed, faulty}
 use Rattle.variables.specs.Edits.{normalizePairs}
 use Rattle.variables.specs.Calls.{Reply, done, refused}
 

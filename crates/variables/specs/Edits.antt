@@ -5,7 +5,7 @@ use mathlib.Core.List.{List, [], _∷_, _++_}
 use lib.ListN.{length, replicate}
 use Rattle.lists.specs.Bytes.{sameBytes}
 use Rattle.values.specs.Value.{decode, encode}
-use Rattle.variables.specs.Area.{Pair, pairOf, pairsBytes}
+use Rattle.pairs.specs.Area.{Pair, pairOf, pairsBytes}
 
 -- the pairs, the ending 0x00, and 0x00 to the area's end
 unfoldable pub areaOf : ℕ → List Pair → List ℕ

@@ -1,7 +1,5 @@
-pub mod Scan
-pub mod Area
 pub mod Edits
 pub mod Calls
-pub mod Places
 pub mod Rules
+pub mod Places
 pub mod EditPlaces

@@ -1,20 +1,20 @@
-// The variable area: pairs of a name and a value, an ending 0x00, and padding.
+// The calls on a variable area: count, read, set, remove and normalize.
 use header::Error;
 use names::NameCheck;
-use repeats::Repeat;
+use pairs::PairAt;
+use pairs::Place;
+use pairs::Scanned;
 use values::Written;
 ghost use mathlib.Core.Path.{_≡_};
-ghost use mathlib.Core.Bool.{false};
 ghost use mathlib.Core.List.{[], _∷_, _++_};
 ghost use Prim.Native.Nat.{_+_, _-_, _≤_, _<_};
-ghost use lib.ListN.{length, take, drop};
+ghost use lib.ListN.{length};
 ghost use Rattle.lists.specs.Pasted.{pasted};
 ghost use Rattle.values.specs.Value.{encode};
-ghost use Rattle.repeats.specs.Pieces.{firstRepeat};
-ghost use Rattle.variables.specs.Scan.{scanName, scanValue, standAt};
-ghost use Rattle.variables.specs.Area.{pairBytes, parse};
+ghost use Rattle.pairs.specs.Area.{pairBytes, parse};
+ghost use Rattle.pairs.specs.Places.{findAt};
 ghost use Rattle.variables.specs.Edits.{canonicalPair};
-ghost use Rattle.variables.specs.Places.{endOf, placeOf, orRepeat, scannedOf, closedOf, firstPlace, findAt, Sought, pairRead, countReply, readReply};
+ghost use Rattle.variables.specs.Places.{Sought, pairRead, countReply, readReply};
 ghost use Rattle.variables.specs.EditPlaces.{editReply, Used, tailShifted, replaceReply, replaceArea, PairMoves, pairRecoded, Parses, normalizedBytes};
 ghost use Rattle.variables.specs.Calls as Calls;
 
@@ -22,50 +22,6 @@ ghost use Rattle.variables.specs.Calls as Calls;
 pub enum Edited {
     Done,
     Refused(Error),
-}
-
-// Where a scan of a name or of a value ends.
-enum ScanEnd {
-    // The byte that ends it stands here.
-    At(usize),
-    // The first byte that breaks the rule stands here.
-    Wrong(usize),
-    // The area ends first.
-    Cut,
-}
-
-// What stands at an offset of the area.
-enum PairAt {
-    // A pair: the offsets of its `=` and of its 0x00.
-    Pair { equals: usize, end: usize },
-    // The ending 0x00.
-    End,
-    // The area ends inside a pair, or where a pair or the end should begin.
-    Cut,
-    // The byte of a name that breaks the name rule.
-    WrongName(usize),
-    // The byte after 0xFF that is 0x00 or 0x80.
-    WrongEscape(usize),
-}
-
-// The whole area: the number of its pairs, the offset of the ending 0x00 and the pair that was sought, or its first fault.
-enum Scanned {
-    Pairs {
-        count: usize,
-        used: usize,
-        place: Place,
-    },
-    Refused(Error),
-}
-
-// The first pair of a name: the offsets of its name, of its `=` and of its 0x00.
-enum Place {
-    At {
-        start: usize,
-        equals: usize,
-        end: usize,
-    },
-    None,
 }
 
 // The number of variables, or why there is none.
@@ -78,139 +34,6 @@ pub enum Counted {
 pub enum ReadAnswer {
     Length(usize),
     Refused(Error),
-}
-
-// Scans a name up to its `=`.
-fn scan_name(area: &[u8], from: usize) -> ScanEnd
-    ensures { λ r. ⌜ r ≡ endOf from from (scanName 0 (drop from (now (area .entry)))) ⌝ }
-{
-    let end = names::name_end(area, from);
-    if 31 < end - from {
-        return ScanEnd::Wrong(from + 31);
-    }
-    if area.len() <= end {
-        return ScanEnd::Cut;
-    }
-    if area[end] != b'=' {
-        return ScanEnd::Wrong(end);
-    }
-    if end == from {
-        return ScanEnd::Wrong(end);
-    }
-    ScanEnd::At(end)
-}
-
-// Scans a stored value up to its 0x00.
-fn scan_value(area: &[u8], from: usize) -> ScanEnd
-    ensures { λ r. ⌜ r ≡ endOf from from (scanValue false 0 (drop from (now (area .entry)))) ⌝ }
-{
-    let mut i = from;
-    loop {
-        i = lists::find_either(area, i, 0, 255);
-        if area.len() <= i {
-            break ScanEnd::Cut;
-        }
-        if area[i] == 0 {
-            break ScanEnd::At(i);
-        }
-        i += 1;
-        if area.len() <= i {
-            break ScanEnd::Cut;
-        }
-        if area[i] % 128 == 0 {
-            break ScanEnd::Wrong(i);
-        }
-        i += 1;
-    }
-}
-
-// What stands at an offset where a pair or the end should begin.
-fn pair_at(area: &[u8], at: usize) -> PairAt
-    ensures { λ r. ⌜ r ≡ placeOf at (standAt (drop at (now (area .entry)))) ⌝ }
-{
-    if area.len() <= at {
-        return PairAt::Cut;
-    }
-    if area[at] == 0 {
-        return PairAt::End;
-    }
-    match scan_name(area, at) {
-        ScanEnd::Cut => PairAt::Cut,
-        ScanEnd::Wrong(k) => PairAt::WrongName(k),
-        ScanEnd::At(n) => match scan_value(area, n + 1) {
-            ScanEnd::Cut => PairAt::Cut,
-            ScanEnd::Wrong(k) => PairAt::WrongEscape(k),
-            ScanEnd::At(v) => PairAt::Pair { equals: n, end: v },
-        },
-    }
-}
-
-// A repeat among the complete pairs, which end at `at`, goes before what stands after them.
-fn or_repeat(area: &[u8], at: usize, out: Scanned) -> Scanned
-    requires { ⌜ at ≤ length (now area) ⌝ }
-    ensures { λ r. ⌜ r ≡ orRepeat (firstRepeat (take at (now (area .entry)))) out ⌝ }
-{
-    match repeats::first_repeat(&area[..at]) {
-        Repeat::At(later) => Scanned::Refused(Error::Repeated { at: later }),
-        Repeat::None => out,
-    }
-}
-
-// What ends the pairs, where `count` of them stand before `at`; a pair does not come here.
-fn closed(seen: PairAt, long: usize, count: usize, at: usize, place: Place) -> Scanned
-    ensures { λ r. ⌜ r ≡ closedOf seen long count at place ⌝ }
-{
-    match seen {
-        PairAt::Pair { equals: _, end: _ } => Scanned::Refused(Error::AreaEnd { at: long }),
-        PairAt::End => Scanned::Pairs {
-            count: count,
-            used: at,
-            place: place,
-        },
-        PairAt::Cut => Scanned::Refused(Error::AreaEnd { at: long }),
-        PairAt::WrongName(k) => Scanned::Refused(Error::StoredName { at: k }),
-        PairAt::WrongEscape(k) => Scanned::Refused(Error::Escape { at: k }),
-    }
-}
-
-// The first place, or else the second.
-fn first_place(place: Place, other: Place) -> Place
-    ensures { λ r. ⌜ r ≡ firstPlace place other ⌝ }
-{
-    match place {
-        Place::At { start, equals, end } => Place::At { start, equals, end },
-        Place::None => other,
-    }
-}
-
-// Scans the whole area once: its pairs up to the ending 0x00 with the first pair of that name, or its first fault.
-fn scan(area: &[u8], name: &[u8]) -> Scanned
-    ensures { λ r. ⌜ r ≡ scannedOf (parse (now (area .entry))) (findAt (now (area .entry)) (now (name .entry))) ⌝ }
-{
-    let mut at = 0;
-    let mut count = 0;
-    let mut place = Place::None;
-    'pairs: loop {
-        let seen = pair_at(area, at);
-        let PairAt::Pair { equals, end } = seen else {
-            let out = closed(seen, area.len(), count, at, place);
-            break 'pairs or_repeat(area, at, out);
-        };
-        let start = at;
-        at = end + 1;
-        count += 1;
-        if equals - start != name.len() {
-            continue 'pairs;
-        }
-        let mut k = 0;
-        while k < name.len() {
-            if area[start + k] != name[k] {
-                continue 'pairs;
-            }
-            k += 1;
-        }
-        place = first_place(place, Place::At { start, equals, end });
-    }
 }
 
 // Decodes the value of the pair at a place into the buffer.
@@ -239,7 +62,7 @@ fn read_pair(area: &[u8], place: Place, buffer: &mut [u8]) -> ReadAnswer
 pub fn count(area: &[u8]) -> Counted
     ensures { λ r. ⌜ countReply r ≡ Calls.callArea Calls.count (now (area .entry)) .reply ⌝ }
 {
-    match scan(area, b"") {
+    match pairs::scan(area, b"") {
         Scanned::Pairs {
             count: n,
             used: _,
@@ -256,7 +79,7 @@ pub fn read(area: &[u8], name: &[u8], buffer: &mut [u8]) -> ReadAnswer
 {
     match names::check(name) {
         NameCheck::Wrong { at: _ } => ReadAnswer::Refused(Error::BadName),
-        NameCheck::Good => match scan(area, name) {
+        NameCheck::Good => match pairs::scan(area, name) {
             Scanned::Refused(e) => ReadAnswer::Refused(e),
             Scanned::Pairs {
                 count: _,
@@ -358,7 +181,7 @@ pub fn set(area: &mut [u8], name: &[u8], value: &[u8]) -> Edited
 {
     match names::check(name) {
         NameCheck::Wrong { at: _ } => Edited::Refused(Error::BadName),
-        NameCheck::Good => match scan(area, name) {
+        NameCheck::Good => match pairs::scan(area, name) {
             Scanned::Refused(e) => Edited::Refused(e),
             Scanned::Pairs {
                 count: _,
@@ -395,7 +218,7 @@ pub fn remove(area: &mut [u8], name: &[u8]) -> Edited
 {
     match names::check(name) {
         NameCheck::Wrong { at: _ } => Edited::Refused(Error::BadName),
-        NameCheck::Good => match scan(area, name) {
+        NameCheck::Good => match pairs::scan(area, name) {
             Scanned::Refused(e) => Edited::Refused(e),
             Scanned::Pairs {
                 count: _,
@@ -435,7 +258,7 @@ fn normalize_pairs(area: &mut [u8]) -> usize
     let mut at = 0;
     let mut to = 0;
     loop {
-        let here = pair_at(area, at);
+        let here = pairs::pair_at(area, at);
         let PairAt::Pair { equals, end } = here else {
             break to;
         };
@@ -449,7 +272,7 @@ pub fn normalize(area: &mut [u8]) -> Edited
     ensures { λ r. ⌜ editReply r ≡ Calls.callArea Calls.normalize (now (area .entry)) .reply ⌝ }
     ensures { λ _. ⌜ now (area .exit) ≡ Calls.callArea Calls.normalize (now (area .entry)) .area ⌝ }
 {
-    match scan(area, b"") {
+    match pairs::scan(area, b"") {
         Scanned::Pairs {
             count: _,
             used: _,

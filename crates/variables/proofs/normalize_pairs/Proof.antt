@@ -5,9 +5,9 @@ use mathlib.Core.Logic.{_⊎_, ⊎-elim}
 use native.Mathlib.Omega.{arith}
 use lib.ListN.{length}
 use denote.Enum.Declared.{tagOf}
-use Rattle.variables.specs.declared.PairAt.{PairAt}
-use Rattle.variables.specs.declared.PairAt.the-variants.{Pair}
-use Rattle.variables.proofs.PairAt.{the-type}
+use Rattle.pairs.specs.declared.PairAt.{PairAt}
+use Rattle.pairs.specs.declared.PairAt.the-variants.{Pair}
+use Rattle.pairs.proofs.PairAt.{the-type}
 use Rattle.variables.proofs.NormalizeLaws.{Normalizing, normalizing-none, normalizing-more, normalizing-end, normalizing-long, pair-moves, pair-further}
 use borrow.Author.Needs.{needs}
 use Rattle.variables.proofs.normalize_pairs.Statement.{statement}

@@ -5,10 +5,10 @@ use native.Mathlib.Omega.{arith}
 use lib.ListN.{length}
 use denote.Ref.{now}
 use Rattle.lists.specs.Pasted.{pasted}
-use Rattle.variables.specs.Area.{pairBytes}
+use Rattle.pairs.specs.Area.{pairBytes}
 use Rattle.variables.specs.Edits.{canonicalPair}
 use Rattle.variables.specs.EditPlaces.{editReply, tailShifted}
-use Rattle.variables.proofs.ParseLaws.{length-pair}
+use Rattle.pairs.proofs.ParseLaws.{length-pair}
 use Rattle.variables.proofs.ReplaceLaws.{no-room, has-room}
 use borrow.Author.Needs.{needs}
 use Rattle.variables.proofs.replace.Statement.{statement}

@@ -12,17 +12,17 @@ use Rattle.header.specs.declared.Error.the-variants.{AreaEnd, StoredName, Escap
 use Rattle.repeats.specs.declared.Repeat.{Repeat}
 use Rattle.repeats.specs.declared.Repeat.the-variants.{At, None}
 use Rattle.repeats.specs.Pieces.{stands, endsName, nameOf, nameAt, startsFrom, starts, repeatIn, firstRepeat}
-use Rattle.variables.specs.declared.PairAt.{PairAt}
-use Rattle.variables.specs.declared.PairAt.the-variants as PairAt
-use Rattle.variables.specs.declared.Scanned.{Scanned}
-use Rattle.variables.specs.declared.Scanned.the-variants.{Pairs}
-use Rattle.variables.specs.declared.Place.{Place}
-use Rattle.variables.specs.Scan.{Stand, pair, finish, cut, wrongName, wrongEscape, standAt}
-use Rattle.variables.specs.Area.{Pair, pairOf, pairBytes, pairsBytes, Parse, parsed, faulty, firstPair, onStand, parseFrom, parse}
-use Rattle.variables.specs.Places.{placeOf, scannedOf, closedOf, orRepeat}
-use Rattle.variables.proofs.PairPlaces.{Goes, NotZero, drop-past, pair-here}
-use Rattle.variables.proofs.PairRuns.{PairRun, none, more, pair-bytes, CleanPairs, run-clean, Walked, walked-length, walked-take}
-use Rattle.variables.proofs.ParseLaws.{length-pair}
+use Rattle.pairs.specs.declared.PairAt.{PairAt}
+use Rattle.pairs.specs.declared.PairAt.the-variants as PairAt
+use Rattle.pairs.specs.declared.Scanned.{Scanned}
+use Rattle.pairs.specs.declared.Scanned.the-variants.{Pairs}
+use Rattle.pairs.specs.declared.Place.{Place}
+use Rattle.pairs.specs.Scan.{Stand, pair, finish, cut, wrongName, wrongEscape, standAt}
+use Rattle.pairs.specs.Area.{Pair, pairOf, pairBytes, pairsBytes, Parse, parsed, faulty, firstPair, onStand, parseFrom, parse}
+use Rattle.pairs.specs.Places.{placeOf, scannedOf, closedOf, orRepeat}
+use Rattle.pairs.proofs.PairPlaces.{Goes, NotZero, drop-past, pair-here}
+use Rattle.pairs.proofs.PairRuns.{PairRun, none, more, pair-bytes, CleanPairs, run-clean, Walked, walked-length, walked-take}
+use Rattle.pairs.proofs.ParseLaws.{length-pair}
 
 -- the first pair whose name stood before
 unfoldable pub repeatPairs : ℕ → List (List ℕ) → List Pair → Repeat

@@ -13,12 +13,12 @@ use Rattle.names.specs.Rules.{NameRule}
 use Rattle.values.specs.Value.{spelled, decode}
 use Rattle.values.specs.Rules.{Spells}
 use Rattle.values.proofs.DecodeLaws.{spells-exactly, spells-spelled, spells-decode}
-use Rattle.variables.specs.Scan.{pair, standAt}
-use Rattle.variables.specs.Area.{Pair, pairOf, pairBytes, pairsBytes, stands, parsed, parse}
-use Rattle.variables.specs.Rules.{Entry, In, sizes, Pairs, Once, WellFormed}
-use Rattle.variables.proofs.ScanLaws.{a-pair, standing-stand, stand-end}
-use Rattle.variables.proofs.ParseLaws.{Good, length-pair, length-pairs, pair-front, area-reads, area-read, bytes-pair}
-use Rattle.variables.proofs.StandsLaws.{names, stands-not, stands-first, stands-other, good-unseen}
+use Rattle.pairs.specs.Scan.{pair, standAt}
+use Rattle.pairs.specs.Area.{Pair, pairOf, pairBytes, pairsBytes, stands, parsed, parse}
+use Rattle.pairs.specs.Rules.{Entry, In, sizes, Pairs, Once, WellFormed}
+use Rattle.pairs.proofs.ScanLaws.{a-pair, standing-stand, stand-end}
+use Rattle.pairs.proofs.ParseLaws.{Good, length-pair, length-pairs, pair-front, area-reads, area-read, bytes-pair}
+use Rattle.pairs.proofs.StandsLaws.{names, stands-not, stands-first, stands-other, good-unseen}
 
 abbrev pub entryOf : Pair → Entry
 entryOf p = record { name = p .name; value = decode (p .stored); size = length (pairBytes p) }

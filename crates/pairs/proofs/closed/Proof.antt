@@ -1,9 +1,9 @@
 use mathlib.Core.Path.{sym, ap}
-use Rattle.variables.specs.declared.PairAt.{PairAt}
-use Rattle.variables.specs.Places.{closedOf}
+use Rattle.pairs.specs.declared.PairAt.{PairAt}
+use Rattle.pairs.specs.Places.{closedOf}
 use borrow.Author.Needs.{needs}
-use Rattle.variables.proofs.closed.Statement.{statement}
-use Rattle.variables.proofs.closed.Tie as tie
+use Rattle.pairs.proofs.closed.Statement.{statement}
+use Rattle.pairs.proofs.closed.Tie as tie
 
 enum-told : tie.Need-enum-told
 enum-told c = search needs

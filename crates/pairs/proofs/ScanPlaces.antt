@@ -15,9 +15,9 @@ use Rattle.names.proofs.AheadLaws.{ahead-short, end-before, end-there}
 use Rattle.lists.proofs.ListLaws.{drop-next}
 use Rattle.lists.specs.Find.{untilEither}
 use Rattle.lists.proofs.FindLaws.{until-short, either-ahead, either-there, either-before}
-use Rattle.variables.specs.declared.ScanEnd.the-variants.{At, Wrong, Cut}
-use Rattle.variables.specs.Scan.{Scan, ends, bad, short, and, scanName, scanValue}
-use Rattle.variables.specs.Places.{endOf}
+use Rattle.pairs.specs.declared.ScanEnd.the-variants.{At, Wrong, Cut}
+use Rattle.pairs.specs.Scan.{Scan, ends, bad, short, and, scanName, scanValue}
+use Rattle.pairs.specs.Places.{endOf}
 
 -- one byte more in front
 end-and : (from at b : ℕ) (s : Scan) → endOf from at (and b s) ≡ endOf from (at + 1) s

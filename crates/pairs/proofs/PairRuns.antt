@@ -6,9 +6,9 @@ use native.Mathlib.Omega.{arith}
 use lib.ListN.{length, take, drop, length-append, length-drop}
 use lib.Seq.{take-at}
 use Rattle.lists.specs.Bytes.{Every}
-use Rattle.variables.specs.Scan.{pair, standAt}
-use Rattle.variables.specs.Area.{Pair, pairOf, pairBytes, pairsBytes}
-use Rattle.variables.proofs.PairPlaces.{Goes, NotZero, pair-here, PairSeen}
+use Rattle.pairs.specs.Scan.{pair, standAt}
+use Rattle.pairs.specs.Area.{Pair, pairOf, pairBytes, pairsBytes}
+use Rattle.pairs.proofs.PairPlaces.{Goes, NotZero, pair-here, PairSeen}
 
 -- l is these pairs and then rest
 pub data PairRun : List Pair → List ℕ → List ℕ → Type 0 where

@@ -15,8 +15,8 @@ use Rattle.names.specs.Name.{nameByte}
 use Rattle.names.specs.Rules.{NameByte, NameRule}
 use Rattle.names.proofs.NameLaws.{name-byte-exactly}
 use Rattle.values.specs.Value.{spelled, spelledFrom}
-use Rattle.variables.specs.Scan.{Scan, ends, bad, short, and, scanName, scanValue, Stand, pair, finish, cut, wrongName, wrongEscape, onValue, onName, standAt}
-use Rattle.variables.specs.Rules.{BadByte, not-allowed, equals-at-once, thirty-second}
+use Rattle.pairs.specs.Scan.{Scan, ends, bad, short, and, scanName, scanValue, Stand, pair, finish, cut, wrongName, wrongEscape, onValue, onName, standAt}
+use Rattle.pairs.specs.Rules.{BadByte, not-allowed, equals-at-once, thirty-second}
 
 -- ---- one byte more
 

@@ -1,9 +1,9 @@
 use mathlib.Core.Path.{sym, ap}
-use Rattle.variables.specs.declared.Place.{Place}
-use Rattle.variables.specs.Places.{firstPlace}
+use Rattle.pairs.specs.declared.Place.{Place}
+use Rattle.pairs.specs.Places.{firstPlace}
 use borrow.Author.Needs.{needs}
-use Rattle.variables.proofs.first_place.Statement.{statement}
-use Rattle.variables.proofs.first_place.Tie as tie
+use Rattle.pairs.proofs.first_place.Statement.{statement}
+use Rattle.pairs.proofs.first_place.Tie as tie
 
 enum-known-place : tie.Need-enum-known-place
 enum-known-place c = search needs

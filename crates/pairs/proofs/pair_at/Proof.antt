@@ -1,17 +1,17 @@
--- `variables::pair_at` meets its contract, by the two scans.
+-- `pairs::pair_at` meets its contract, by the two scans.
 use Prim.Native.Nat.{_+_}
 use mathlib.Core.Path.{_≡_, sym, _∙_}
 use mathlib.Core.Bool.{false}
 use native.Mathlib.Omega.{arith}
 use lib.ListN.{drop}
-use Rattle.variables.specs.declared.ScanEnd.{ScanEnd}
-use Rattle.variables.specs.declared.ScanEnd.the-variants.{At, Wrong, Cut}
-use Rattle.variables.specs.Scan.{scanValue, standAt}
-use Rattle.variables.specs.Places.{endOf, placeOf}
-use Rattle.variables.proofs.PairPlaces.{NameEnd, name-end, byValue, stand-past, stand-end, stand-cut, stand-wrong, stand-value}
+use Rattle.pairs.specs.declared.ScanEnd.{ScanEnd}
+use Rattle.pairs.specs.declared.ScanEnd.the-variants.{At, Wrong, Cut}
+use Rattle.pairs.specs.Scan.{scanValue, standAt}
+use Rattle.pairs.specs.Places.{endOf, placeOf}
+use Rattle.pairs.proofs.PairPlaces.{NameEnd, name-end, byValue, stand-past, stand-end, stand-cut, stand-wrong, stand-value}
 use borrow.Author.Needs.{needs}
-use Rattle.variables.proofs.pair_at.Statement.{statement}
-use Rattle.variables.proofs.pair_at.Tie as tie
+use Rattle.pairs.proofs.pair_at.Statement.{statement}
+use Rattle.pairs.proofs.pair_at.Tie as tie
 
 -- the name ends at n
 named : (s : tie.After-n) → NameEnd (s .before .before .before .before .before .before .before .args .area .now) (s .before .before .before .before .before .before .before .args .at) (s .n .given .0 .0)

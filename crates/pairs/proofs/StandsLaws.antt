@@ -6,8 +6,8 @@ use mathlib.Core.List.{List, [], _∷_, _++_}
 use Rattle.lists.specs.Bytes.{sameBytes}
 use Rattle.lists.proofs.Tests.{split, clash}
 use Rattle.lists.proofs.ByteLaws.{same-refl, same-true}
-use Rattle.variables.specs.Area.{Pair, stands}
-use Rattle.variables.proofs.ParseLaws.{Good, none, more}
+use Rattle.pairs.specs.Area.{Pair, stands}
+use Rattle.pairs.proofs.ParseLaws.{Good, none, more}
 
 pub or-false : (a b : Bool) → a || b ≡ false → (a ≡ false) × (b ≡ false)
 or-false true b e = clash (cc)

@@ -1,8 +1,8 @@
--- `variables::scan_name` meets its contract, by the first byte that a name may not hold.
-use Rattle.variables.proofs.ScanPlaces.{end-long, end-cut, end-wrong, end-empty, end-name}
+-- `pairs::scan_name` meets its contract, by the first byte that a name may not hold.
+use Rattle.pairs.proofs.ScanPlaces.{end-long, end-cut, end-wrong, end-empty, end-name}
 use borrow.Author.Needs.{needs}
-use Rattle.variables.proofs.scan_name.Statement.{statement}
-use Rattle.variables.proofs.scan_name.Tie as tie
+use Rattle.pairs.proofs.scan_name.Statement.{statement}
+use Rattle.pairs.proofs.scan_name.Tie as tie
 
 name-end-requires : tie.Need-name-end-requires
 name-end-requires c κs = search needs

@@ -11,9 +11,9 @@ use Rattle.header.specs.declared.Error.{Error}
 use Rattle.header.specs.declared.Error.the-variants.{Repeated}
 use Rattle.names.specs.Rules.{NameRule}
 use Rattle.values.specs.Value.{spelled}
-use Rattle.variables.specs.Scan.{Stand, standAt}
-use Rattle.variables.specs.Area.{Pair, pairOf, pairBytes, pairsBytes, stands, Parse, parsed, faulty, firstPair, pickParse, onStand, parseFrom, parse}
-use Rattle.variables.proofs.ScanLaws.{Standing, a-pair, the-end, cut-name, cut-value, cut-escape, a-wrong-name, a-wrong-escape, standing, standing-stand}
+use Rattle.pairs.specs.Scan.{Stand, standAt}
+use Rattle.pairs.specs.Area.{Pair, pairOf, pairBytes, pairsBytes, stands, Parse, parsed, faulty, firstPair, pickParse, onStand, parseFrom, parse}
+use Rattle.pairs.proofs.ScanLaws.{Standing, a-pair, the-end, cut-name, cut-value, cut-escape, a-wrong-name, a-wrong-escape, standing, standing-stand}
 
 -- pairs as they may stand after the names that were seen
 pub data Good : List (List ℕ) → List Pair → Type 0 where

@@ -1,12 +1,12 @@
--- `variables::scan_value` meets its contract. The invariant: what is left of the scan gives its end.
+-- `pairs::scan_value` meets its contract. The invariant: what is left of the scan gives its end.
 use Prim.Native.Nat.{_+_, _-_}
 use mathlib.Core.Bool.{true, false}
 use native.Mathlib.Omega.{arith}
 use lib.ListN.{length}
 use borrow.Author.Needs.{needs}
-use Rattle.variables.proofs.ScanPlaces.{ValueScan, value-begun, value-cut, value-ends, value-skip, value-mark, escape-wrong, escape-next}
-use Rattle.variables.proofs.scan_value.Statement.{statement}
-use Rattle.variables.proofs.scan_value.Tie as tie
+use Rattle.pairs.proofs.ScanPlaces.{ValueScan, value-begun, value-cut, value-ends, value-skip, value-mark, escape-wrong, escape-next}
+use Rattle.pairs.proofs.scan_value.Statement.{statement}
+use Rattle.pairs.proofs.scan_value.Tie as tie
 
 abbrev Inv-loop : tie.InvT-loop
 Inv-loop area from i₀ i = ValueScan area from false i

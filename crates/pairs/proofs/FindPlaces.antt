@@ -11,13 +11,13 @@ use borrow.Author.Tests.{eq-eqb, ne-eqb}
 use Rattle.lists.specs.Bytes.{sameBytes}
 use Rattle.lists.proofs.ByteLaws.{same-false, same-step}
 use Rattle.values.specs.Value.{part}
-use Rattle.variables.specs.declared.PairAt.{PairAt}
-use Rattle.variables.specs.declared.PairAt.the-variants as PairAt
-use Rattle.variables.specs.declared.Place.{Place}
-use Rattle.variables.specs.declared.Place.the-variants.{At, None}
-use Rattle.variables.specs.Scan.{Stand, pair, finish, cut, wrongName, wrongEscape, standAt}
-use Rattle.variables.specs.Places.{placeOf, onFind, findFrom, findAt, firstPlace}
-use Rattle.variables.proofs.PairPlaces.{pair-here, PairSeen}
+use Rattle.pairs.specs.declared.PairAt.{PairAt}
+use Rattle.pairs.specs.declared.PairAt.the-variants as PairAt
+use Rattle.pairs.specs.declared.Place.{Place}
+use Rattle.pairs.specs.declared.Place.the-variants.{At, None}
+use Rattle.pairs.specs.Scan.{Stand, pair, finish, cut, wrongName, wrongEscape, standAt}
+use Rattle.pairs.specs.Places.{placeOf, onFind, findFrom, findAt, firstPlace}
+use Rattle.pairs.proofs.PairPlaces.{pair-here, PairSeen}
 
 -- the name of a pair that the code has seen
 pub seen-name : {area : List ℕ} {at q e : ℕ} (p : PairSeen area at q e) → part area at q ≡ p .name

@@ -6,7 +6,7 @@ use lib.ListN.{length}
 unfoldable pub use Rattle.repeats.specs.Pieces.{stands}
 use Rattle.header.specs.declared.Error.{Error}
 use Rattle.header.specs.declared.Error.the-variants.{AreaEnd, StoredName, Escape, Repeated}
-use Rattle.variables.specs.Scan.{Stand, pair, finish, cut, wrongName, wrongEscape, standAt}
+use Rattle.pairs.specs.Scan.{Stand, pair, finish, cut, wrongName, wrongEscape, standAt}
 
 -- a stored pair: its name, and its value as it is stored
 pub record Pair : Type 0 where

@@ -1,11 +1,11 @@
--- `variables::or_repeat` meets its contract, by the first repeat among the bytes before `at`.
+-- `pairs::or_repeat` meets its contract, by the first repeat among the bytes before `at`.
 use mathlib.Core.Path.{sym, ap, _∙_}
 use lib.Seq.{length-take-le}
 use Rattle.repeats.specs.declared.Repeat.{Repeat}
-use Rattle.variables.specs.Places.{orRepeat}
+use Rattle.pairs.specs.Places.{orRepeat}
 use borrow.Author.Needs.{needs}
-use Rattle.variables.proofs.or_repeat.Statement.{statement}
-use Rattle.variables.proofs.or_repeat.Tie as tie
+use Rattle.pairs.proofs.or_repeat.Statement.{statement}
+use Rattle.pairs.proofs.or_repeat.Tie as tie
 
 slice-aggregate-first-repeat : tie.Need-slice-aggregate-first-repeat
 slice-aggregate-first-repeat c = sym (length-take-le _ _ (c .before .before .pre))

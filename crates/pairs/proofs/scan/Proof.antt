@@ -1,20 +1,20 @@
--- `variables::scan` meets its contract. The invariants: complete pairs stand before `at`, so many as are counted, the search for the name goes on there, and the two names agree for k bytes.
+-- `pairs::scan` meets its contract. The invariants: complete pairs stand before `at`, so many as are counted, the search for the name goes on there, and the two names agree for k bytes.
 use Prim.Native.Nat.{ℕ, _-_}
 use mathlib.Core.Path.{_≡_, sym, ap, _∙_}
 use mathlib.Core.Logic.{_⊎_, ⊎-elim}
 use native.Mathlib.Omega.{arith}
 use lib.ListN.{length}
 use denote.Enum.Declared.{tagOf}
-use Rattle.variables.specs.declared.PairAt.{PairAt}
-use Rattle.variables.specs.declared.PairAt.the-variants.{Pair}
-use Rattle.variables.proofs.PairAt.{the-type}
-use Rattle.variables.proofs.PairPlaces.{PairSeen, pair-seen}
-use Rattle.variables.proofs.PairRuns.{Walked, walked-none, walked-more}
-use Rattle.variables.proofs.JoinLaws.{walked-end}
-use Rattle.variables.proofs.FindPlaces.{Finding, finding-none, finding-end, finding-same, finding-next, Compared, other-length, compared-none, compared-same, compared-other, compared-all}
+use Rattle.pairs.specs.declared.PairAt.{PairAt}
+use Rattle.pairs.specs.declared.PairAt.the-variants.{Pair}
+use Rattle.pairs.proofs.PairAt.{the-type}
+use Rattle.pairs.proofs.PairPlaces.{PairSeen, pair-seen}
+use Rattle.pairs.proofs.PairRuns.{Walked, walked-none, walked-more}
+use Rattle.pairs.proofs.JoinLaws.{walked-end}
+use Rattle.pairs.proofs.FindPlaces.{Finding, finding-none, finding-end, finding-same, finding-next, Compared, other-length, compared-none, compared-same, compared-other, compared-all}
 use borrow.Author.Needs.{needs}
-use Rattle.variables.proofs.scan.Statement.{statement}
-use Rattle.variables.proofs.scan.Tie as tie
+use Rattle.pairs.proofs.scan.Statement.{statement}
+use Rattle.pairs.proofs.scan.Tie as tie
 
 not-pair : (x : PairAt) → (tagOf the-type x ≡ 1) ⊎ ((tagOf the-type x ≡ 2) ⊎ ((tagOf the-type x ≡ 3) ⊎ (tagOf the-type x ≡ 4))) → (q e : ℕ) → x ≡ Pair q e → ⊥
 not-pair x h q e p =

@@ -13,13 +13,13 @@ use Rattle.lists.proofs.Tests.{split, clash, and-true}
 use Rattle.names.specs.Name.{nameByte}
 use Rattle.lists.proofs.ListLaws.{drop-next}
 use Rattle.repeats.specs.Pieces.{endsName}
-use Rattle.variables.specs.declared.ScanEnd.{ScanEnd}
-use Rattle.variables.specs.declared.ScanEnd.the-variants.{At, Wrong, Cut}
-use Rattle.variables.specs.declared.PairAt.{PairAt}
-use Rattle.variables.specs.declared.PairAt.the-variants as PairAt
-use Rattle.variables.specs.Scan.{Scan, ends, bad, short, and, scanName, scanValue, Stand, pair, finish, cut, wrongName, wrongEscape, onValue, onName, standAt}
-use Rattle.variables.specs.Places.{endOf, placeOf}
-use Rattle.variables.proofs.ScanLaws.{and-ends}
+use Rattle.pairs.specs.declared.ScanEnd.{ScanEnd}
+use Rattle.pairs.specs.declared.ScanEnd.the-variants.{At, Wrong, Cut}
+use Rattle.pairs.specs.declared.PairAt.{PairAt}
+use Rattle.pairs.specs.declared.PairAt.the-variants as PairAt
+use Rattle.pairs.specs.Scan.{Scan, ends, bad, short, and, scanName, scanValue, Stand, pair, finish, cut, wrongName, wrongEscape, onValue, onName, standAt}
+use Rattle.pairs.specs.Places.{endOf, placeOf}
+use Rattle.pairs.proofs.ScanLaws.{and-ends}
 
 -- a scan takes bytes of a kind off a list, up to the byte that ends them
 pub record Taken (stop : ℕ) (P : ℕ → Type 0) (l taken rest : List ℕ) : Type 0 where

@@ -1,0 +1,10 @@
+pub mod ScanLaws
+pub mod ParseLaws
+pub mod StandsLaws
+pub mod EntryLaws
+pub mod FaultLaws
+pub mod ScanPlaces
+pub mod PairPlaces
+pub mod PairRuns
+pub mod JoinLaws
+pub mod FindPlaces

@@ -1,0 +1,4 @@
+pub mod Scan
+pub mod Area
+pub mod Places
+pub mod Rules
