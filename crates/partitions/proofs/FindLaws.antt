@@ -91,17 +91,17 @@ module _ (image : List ℕ) (signature : ℕ) (name : List ℕ) where
   name-start a = name-on (rest image 0) ∙ ap (findBy image signature name) (sym (walk-rest image a))
 
   -- a turn of the loop, where the signature agrees and where not
-  module _ (best : Found) (p : Partition) (ps : List Partition) (es : headerAt image (p .offset) .signature ≡ p .signature) where
-    pub seek-signed : p .signature ≡ signature → (r : Found)
+  module _ (best : Found) (p : Partition) (ps : List Partition) (s : ℕ) (es : s ≡ headerAt image (p .offset) .signature) where
+    pub seek-signed : s ≡ signature → (r : Found)
         → r ≡ keepFirst best (sameBytes (headerAt image (p .offset) .name) (padded 12 name)) p
         → seekName image signature name best (p ∷ ps) ≡ seekName image signature name r ps
     seek-signed e r er =
-        ap (λ (b : Bool). seekName image signature name (keepFirst best b p) ps) (matches-signed image (p .offset) signature name (es ∙ e))
+        ap (λ (b : Bool). seekName image signature name (keepFirst best b p) ps) (matches-signed image (p .offset) signature name (sym es ∙ e))
         ∙ ap (λ (f : Found). seekName image signature name f ps) (sym er)
 
-    pub seek-other : (p .signature ≡ signature → ⊥) → seekName image signature name best (p ∷ ps) ≡ seekName image signature name best ps
+    pub seek-other : (s ≡ signature → ⊥) → seekName image signature name best (p ∷ ps) ≡ seekName image signature name best ps
     seek-other d =
-        ap (λ (b : Bool). seekName image signature name (keepFirst best b p) ps) (matches-other image (p .offset) signature name (λ q. d (sym es ∙ q)))
+        ap (λ (b : Bool). seekName image signature name (keepFirst best b p) ps) (matches-other image (p .offset) signature name (λ q. d (es ∙ q)))
         ∙ ap (λ (f : Found). seekName image signature name f ps) (unwanted best)
       where
         unwanted : (f : Found) → keepFirst f false p ≡ f

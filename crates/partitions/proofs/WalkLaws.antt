@@ -105,19 +105,6 @@ next-bounds image at p c e = go (stepAt image at) (view image at) e
         subst (λ (x : Cursor). (at < x .at) × (x .at ≤ length image)) e (omega arith)
     go (Broken x) (breaks l v) q = clash (cc)
 
--- the partition of a step has the signature of its header
-pub next-signature : (image : List ℕ) (at : ℕ) (p : Partition) (c : Cursor) → stepAt image at ≡ Next p c
-    → headerAt image (p .offset) .signature ≡ p .signature
-unfolding partitionOf
-next-signature image at p c e = go (stepAt image at) (view image at) e
-  where
-    go : (s : Step) → View image at s → s ≡ Next p c → headerAt image (p .offset) .signature ≡ p .signature
-    go End (ends l) q = clash (cc)
-    go (Next p' c') (goes l v) q =
-        let e : partitionOf image at ≡ p = cc in
-        subst (λ (x : Partition). headerAt image (x .offset) .signature ≡ x .signature) e refl
-    go (Broken x) (breaks l v) q = clash (cc)
-
 -- an answer by cases on what a walk finds
 abbrev pub onWalk : {R : Type 0} → (List Partition → R) → (Error → R) → Walk → R
 onWalk f g (covered ps) = f ps

@@ -289,7 +289,7 @@ pub fn find(image: &[u8], signature: u8, name: &[u8]) -> Found
         let step = cursor.step(image);
         match step {
             Step::Next(p, next) => {
-                if p.signature == signature {
+                if Header::signature_at(image, p.offset) == signature {
                     best = first_named(best, image, p, name);
                 }
                 cursor = next;

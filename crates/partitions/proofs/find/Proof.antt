@@ -12,7 +12,7 @@ use Rattle.partitions.specs.declared.Step.the-variants.{Next}
 use Rattle.partitions.specs.declared.Found.{Found}
 use Rattle.partitions.specs.declared.Found.the-variants.{Refused}
 use Rattle.partitions.specs.Find.{findOf}
-use Rattle.partitions.proofs.WalkLaws.{next-bounds, next-signature, rest, onWalk, loop-next, loop-end, loop-broken}
+use Rattle.partitions.proofs.WalkLaws.{next-bounds, rest, onWalk, loop-next, loop-end, loop-broken}
 use Rattle.partitions.proofs.FindLaws.{seekName, name-refused, name-start, seek-signed, seek-other}
 use borrow.Author.Needs.{needs}
 use Rattle.partitions.proofs.find.Statement.{statement}
@@ -64,6 +64,9 @@ step-requires c κs = search needs
 enum-known-step : tie.Need-enum-known-step Inv-loop μ-loop
 enum-known-step c = search needs
 
+signature-at-requires : tie.Need-signature-at-requires Inv-loop μ-loop
+signature-at-requires c κs = search needs
+
 first-named-requires : tie.Need-first-named-requires Inv-loop μ-loop
 first-named-requires c κs = search needs
 
@@ -75,7 +78,8 @@ loop-less c =
 
 loop-again : tie.Need-loop-again Inv-loop μ-loop
 loop-again c =
-    let t = c .before .before .before in
+    let h = c .before .before in
+    let t = h .before in
     let s = t .before .before .before in
     let l = s .before in
     let a = l .before .before .before .before .before .before .args in
@@ -84,7 +88,7 @@ loop-again c =
     loop-next (imageOf s) (l .loop .cursor .at) (seek s (l .loop .best)) Refused _ (l .loop .inv) (g .0 .0) (g .0 .1 .0) e
     (seek s (c .first-named .result))
     (λ ps. seek-signed (imageOf s) (a .signature) (now (a .name)) (l .loop .best) (g .0 .0) ps
-    (next-signature (imageOf s) (l .loop .cursor .at) (g .0 .0) (g .0 .1 .0) e) (c .before .if2 .taken) (c .first-named .result) (c .first-named .ensures))
+    (h .signature-at .result) (h .signature-at .ensures) (c .before .if2 .taken) (c .first-named .result) (c .first-named .ensures))
 
 loop-less-2 : tie.Need-loop-less-2 Inv-loop μ-loop
 loop-less-2 c =
@@ -94,7 +98,8 @@ loop-less-2 c =
 
 loop-again-2 : tie.Need-loop-again-2 Inv-loop μ-loop
 loop-again-2 c =
-    let t = c .before .before in
+    let h = c .before in
+    let t = h .before in
     let s = t .before .before .before in
     let l = s .before in
     let a = l .before .before .before .before .before .before .args in
@@ -103,7 +108,7 @@ loop-again-2 c =
     loop-next (imageOf s) (l .loop .cursor .at) (seek s (l .loop .best)) Refused _ (l .loop .inv) (g .0 .0) (g .0 .1 .0) e
     (seek s (l .loop .best))
     (λ ps. seek-other (imageOf s) (a .signature) (now (a .name)) (l .loop .best) (g .0 .0) ps
-    (next-signature (imageOf s) (l .loop .cursor .at) (g .0 .0) (g .0 .1 .0) e) (c .if2 .left))
+    (h .signature-at .result) (h .signature-at .ensures) (c .if2 .left))
 
 enum-told : tie.Need-enum-told Inv-loop μ-loop
 enum-told c = search needs
@@ -136,6 +141,7 @@ find-spec =
     loop-holds
     step-requires
     enum-known-step
+    signature-at-requires
     first-named-requires
     loop-less
     loop-again
