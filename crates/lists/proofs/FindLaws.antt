@@ -7,12 +7,13 @@ use mathlib.Core.Logic.{_≢_, _⊎_, inl, inr}
 use native.Mathlib.Omega.{arith}
 use lib.Dec.{ltb, eqb}
 use lib.ListN.{length, getD, take, drop, length-drop, take-append-drop, drop-of-length-le}
-use lib.Seq.{getD-drop, drop-drop}
+use lib.Seq.{getD-drop, drop-drop, take-take, length-take-le}
 use borrow.Author.Tests.{eqb-true, eqb-false, eq-eqb, ne-eqb, ltb-true, ltb-false, lt-ltb, le-ltb}
 use Rattle.lists.specs.Bytes.{Every}
 use Rattle.lists.specs.Find.{either, untilEither}
 use Rattle.lists.proofs.Tests.{split, clash}
 use Rattle.lists.proofs.ListLaws.{drop-next}
+use Rattle.lists.proofs.ByteLaws.{every-take}
 
 -- ---- the test of a byte
 
@@ -113,6 +114,11 @@ module _ (s : List ℕ) (from b c : ℕ) {r : ℕ} (e : r ≡ from + untilEither
   pub either-ahead : from ≤ r
   either-ahead = omega arith
 
+  pub either-further : from < length s → getD s from 0 ≢ b → getD s from 0 ≢ c → from < r
+  either-further h n m =
+      let q = ap (untilEither b c) (drop-next s from h) ∙ until-next b c (getD s from 0) (drop (from + 1) s) (either-none b c (getD s from 0) n m) in
+      omega arith
+
   pub either-inside : from ≤ length s → r ≤ length s
   either-inside h = omega (arith, until-short b c (drop from s), length-drop from s)
 
@@ -138,18 +144,33 @@ module _ (s : List ℕ) (from b c : ℕ) {r : ℕ} (e : r ≡ from + untilEither
       )))
       (λ t. t))
 
-  -- the bytes up to it, and the rest
-  pub either-piece : drop from s ≡ take (r - from) (drop from s) ++ drop r s
-  either-piece =
-      let n : r - from ≡ untilEither b c (drop from s) = omega arith in
-      let q : from + (r - from) ≡ r = omega arith in
+-- ---- the bytes from `from` up to r, which is at most the offset of the first b or c
+
+module _ (s : List ℕ) (from b c : ℕ) {r : ℕ} (h : from ≤ r) (q : r ≤ from + untilEither b c (drop from s)) where
+  pub plain-inside : from ≤ length s → r ≤ length s
+  plain-inside k = omega (arith, until-short b c (drop from s), length-drop from s)
+
+  pub plain-cut : drop from s ≡ take (r - from) (drop from s) ++ drop r s
+  plain-cut =
+      let e : from + (r - from) ≡ r = omega arith in
       sym (take-append-drop (r - from) (drop from s)) ∙ ap (λ (l : List ℕ). take (r - from) (drop from s) ++ l)
-      (drop-drop (r - from) from s ∙ ap (λ (m : ℕ). drop m s) q)
+      (drop-drop (r - from) from s ∙ ap (λ (m : ℕ). drop m s) e)
+
+  pub plain-length : from ≤ length s → length (take (r - from) (drop from s)) ≡ r - from
+  plain-length k = length-take-le (r - from) (drop from s) (omega (arith, plain-inside k, length-drop from s))
+
+  pub plain-bytes : Every (λ x. either b c x ≡ false) (take (r - from) (drop from s))
+  plain-bytes =
+      rw (← take-take (r - from) (untilEither b c (drop from s)) (drop from s) (omega arith))
+      (every-take (λ x. either b c x ≡ false) (r - from) (take (untilEither b c (drop from s)) (drop from s)) (until-before b c (drop from s)))
+
+-- the same up to the first b or c itself
+module _ (s : List ℕ) (from b c : ℕ) {r : ℕ} (e : r ≡ from + untilEither b c (drop from s)) where
+  pub either-piece : drop from s ≡ take (r - from) (drop from s) ++ drop r s
+  either-piece = plain-cut s from b c (omega arith) (omega arith)
 
   pub either-plain : Every (λ x. either b c x ≡ false) (take (r - from) (drop from s))
-  either-plain =
-      let n : r - from ≡ untilEither b c (drop from s) = omega arith in
-      rw n (until-before b c (drop from s))
+  either-plain = plain-bytes s from b c (omega arith) (omega arith)
 
 -- ---- the turns of the loops
 

@@ -5,12 +5,14 @@ use mathlib.Core.Bool.{Bool, true, false, _&&_, not}
 use mathlib.Core.List.{List, [], _∷_, _++_}
 use mathlib.Core.Logic.{_≢_, _↔_}
 use native.Mathlib.Omega.{arith}
-use lib.ListN.{length, getD, drop, replicate, length-append, length-replicate, drop-of-length-le}
+use lib.ListN.{length, getD, take, drop, replicate, length-append, length-replicate, drop-of-length-le}
 use lib.Dec.{ltb, eqb}
 use borrow.Author.Tests.{eqb-true, eqb-false, eq-eqb, ne-eqb, ltb-true, ltb-false, lt-ltb, le-ltb}
 use Rattle.lists.specs.Bytes.{Every, AllBytes}
+use Rattle.lists.specs.Find.{either, untilEither}
 use Rattle.lists.proofs.Tests.{split, clash, and-true}
-use Rattle.values.specs.Value.{runByte, run, decodeFrom, decode, spelledFrom, spelled}
+use Rattle.lists.proofs.FindLaws.{either-not, plain-cut, plain-bytes, plain-length}
+use Rattle.values.specs.Value.{runByte, run, decodeFrom, decode, spelledFrom, spelled, part}
 use Rattle.values.specs.Rules.{Spells, nothing, itself, zeros, ones}
 use Rattle.lists.proofs.ListLaws.{drop-next, every-append, every-replicate}
 
@@ -170,6 +172,11 @@ pub bytes-decode : (s : List ℕ) → AllBytes s → AllBytes (decode s)
 unfolding decode
 bytes-decode s h = bytes-from false s h
 
+-- a piece without 0xFF stands for itself
+pub decode-piece : (p s : List ℕ) → Every (λ x. either 255 255 x ≡ false) p → decode (p ++ s) ≡ p ++ decode s
+decode-piece [] s h = refl
+decode-piece (x ∷ p) s h = decode-plain x (p ++ s) (either-not 255 255 x (h .0) .0) ∙ ap (λ (r : List ℕ). x ∷ r) (decode-piece p s (h .1))
+
 -- ---- one turn, at the place i of l
 
 module _ (l : List ℕ) (i : ℕ) where
@@ -198,3 +205,16 @@ module _ (l : List ℕ) (i : ℕ) where
   length-two h b =
       ap length (decode-two h b)
       ∙ omega (arith, length-append (run (getD l (i + 1) 0)) (decode (drop (i + 1 + 1) l)), length-run (getD l (i + 1) 0))
+
+-- ---- a piece without 0xFF: from the place i of l up to e
+module _ (l : List ℕ) (i : ℕ) {e : ℕ} (h : i ≤ e) (q : e ≤ i + untilEither 255 255 (drop i l)) where
+  pub decode-part : decode (drop i l) ≡ part l i e ++ decode (drop e l)
+  unfolding part
+  decode-part = ap decode (plain-cut l i 255 255 h q) ∙ decode-piece (take (e - i) (drop i l)) (drop e l) (plain-bytes l i 255 255 h q)
+
+  pub length-part : i ≤ length l → length (part l i e) ≡ e - i
+  unfolding part
+  length-part k = plain-length l i 255 255 h q k
+
+  pub length-piece : i ≤ length l → length (decode (drop i l)) ≡ e - i + length (decode (drop e l))
+  length-piece k = ap length decode-part ∙ omega (arith, length-append (part l i e) (decode (drop e l)), length-part k)

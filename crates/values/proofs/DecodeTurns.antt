@@ -5,17 +5,18 @@ use mathlib.Core.List.{List, [], _∷_}
 use mathlib.Core.Logic.{_≢_, _⊎_, inl, inr}
 use mathlib.Core.Bool.{true, false}
 use native.Mathlib.Omega.{arith}
-use lib.ListN.{length, getD, set, drop, replicate, drop-of-length-le}
+use lib.ListN.{length, getD, set, drop, replicate, length-append, drop-of-length-le}
 use lib.Dec.{eqb}
 use borrow.Author.Tests.{eqb-true, eqb-false}
+use Rattle.lists.specs.Find.{untilEither}
 use Rattle.lists.specs.Pasted.{pasted}
 use Rattle.lists.proofs.Grown.{Grown, grown-none, grown-as, grown-same, grown-piece, grown-byte, grown-all}
 use Rattle.lists.proofs.Tests.{split}
 use Rattle.values.specs.declared.Written.the-variants.{Length, NoRoom}
-use Rattle.values.specs.Value.{runByte, run, decode, writtenOf, spelledFrom, spelled}
+use Rattle.values.specs.Value.{runByte, run, decode, writtenOf, spelledFrom, spelled, part, Passed}
 use Rattle.lists.proofs.ListLaws.{drop-next}
 use Rattle.lists.proofs.Grown.{grown-left}
-use Rattle.values.proofs.DecodeLaws.{length-run, decode-end, decode-one, decode-two, decode-stop, length-one, length-two, spelled-plain, spelled-escape, empty-spelled}
+use Rattle.values.proofs.DecodeLaws.{length-run, decode-end, decode-one, decode-two, decode-stop, decode-part, length-one, length-two, length-part, length-piece, spelled-plain, spelled-escape, empty-spelled}
 use Rattle.values.proofs.WrittenLaws.{written-not, count-fits}
 
 -- ---- the loop that counts: n bytes of the value, so far no more than the room
@@ -43,16 +44,22 @@ module _ {a : List ℕ} {room i n : ℕ} (s : Measured a room i n) where
   pub measured-full : i < length a → getD a i 0 ≢ 255 → room ≤ n → NoRoom ≡ writtenOf (decode a) room
   measured-full h e k = sym (written-not (decode a) room (omega (arith, s .sum, length-one a i h e)))
 
+  pub measured-piece : i ≤ length a → {e : ℕ} → e ≡ i + untilEither 255 255 (drop i a) → e - i ≤ room - n → Measured a room e (n + (e - i))
+  measured-piece h {e} q k = record { within = omega (arith, s .within); sum = omega (arith, s .sum, length-piece a i {e = e} (omega arith) (omega arith) h) }
+
+  pub measured-wide : i ≤ length a → {e : ℕ} → e ≡ i + untilEither 255 255 (drop i a) → room - n < e - i → NoRoom ≡ writtenOf (decode a) room
+  measured-wide h {e} q k = sym (written-not (decode a) room (omega (arith, s .within, s .sum, length-piece a i {e = e} (omega arith) (omega arith) h)))
+
   pub measured-all : length a ≤ i → Length n ≡ writtenOf (decode a) room
   measured-all h = count-fits (decode a) room n (omega (arith, s .sum, ap length (decode-end a i h))) (s .within)
 
--- ---- the loop that writes: the value's first o bytes are in the buffer, which was d and is b
-pub record Decoding (a d : List ℕ) (i o : ℕ) (b : List ℕ) : Type 0 where
-  pub grown : Grown (decode a) d 0 o (decode (drop i a)) b
-  pub fits : length (decode a) ≤ length d
+-- ---- the loops that write: what the bytes from the place f up to i stand for is in the buffer, which was d and is b, from `at` up to o
+pub record Decoding (a d : List ℕ) (f at i o : ℕ) (b : List ℕ) : Type 0 where
+  pub grown : Grown (decode (drop f a)) d at o (decode (drop i a)) b
+  pub fits : at + length (decode (drop f a)) ≤ length d
 
-pub decoding-none : (a d : List ℕ) → length (decode a) ≤ length d → Decoding a d 0 0 d
-decoding-none a d h = record { grown = grown-none (decode a) d 0 (omega arith); fits = h }
+pub decoding-none : (a d : List ℕ) (f at : ℕ) → at + length (decode (drop f a)) ≤ length d → Decoding a d f at f at d
+decoding-none a d f at h = record { grown = grown-none (decode (drop f a)) d at (omega arith); fits = h }
 
 run-as : (o c x : ℕ) → x ≡ runByte c → replicate (o + c % 128 - o) x ≡ run c
 unfolding run
@@ -60,18 +67,18 @@ run-as o c x e =
     let n : o + c % 128 - o ≡ c % 128 = omega arith in
     rw (n, e)
 
-module _ {a d : List ℕ} {i o : ℕ} {b : List ℕ} (s : Decoding a d i o b) where
+module _ {a d : List ℕ} {f at i o : ℕ} {b : List ℕ} (s : Decoding a d f at i o b) where
   pub decoding-same : length b ≡ length d
   decoding-same = grown-same (s .grown)
 
   left-fits : o + length (decode (drop i a)) ≤ length d
-  left-fits = grown-left (s .grown) (omega (arith, s .fits))
+  left-fits = grown-left (s .grown) (s .fits)
 
   pub run-room : i + 1 < length a → getD a i 0 ≡ 255 → o + getD a (i + 1) 0 % 128 ≤ length b
   run-room h e = omega (arith, decoding-same, left-fits, length-two a i h e)
 
   pub run-turn : i + 1 < length a → getD a i 0 ≡ 255 → {x : ℕ} {b′ : List ℕ} → x ≡ runByte (getD a (i + 1) 0)
-      → b′ ≡ pasted b o (replicate (o + getD a (i + 1) 0 % 128 - o) x) → Decoding a d (i + 1 + 1) (o + getD a (i + 1) 0 % 128) b′
+      → b′ ≡ pasted b o (replicate (o + getD a (i + 1) 0 % 128 - o) x) → Decoding a d f at (i + 1 + 1) (o + getD a (i + 1) 0 % 128) b′
   run-turn h e {x} q f = record {
     grown =
         grown-piece (s .grown) (run (getD a (i + 1) 0)) (decode (drop (i + 1 + 1) a)) (decode-two a i h e)
@@ -80,20 +87,50 @@ module _ {a d : List ℕ} {i o : ℕ} {b : List ℕ} (s : Decoding a d i o b) wh
     fits = s .fits;
   }
 
-  pub stop-turn : i < length a → length a ≤ i + 1 → getD a i 0 ≡ 255 → Decoding a d (i + 1) o b
+  pub stop-turn : i < length a → length a ≤ i + 1 → getD a i 0 ≡ 255 → Decoding a d f at (i + 1) o b
   stop-turn h k e = record { grown = grown-as (s .grown) (decode-stop a i h k e); fits = s .fits }
 
   pub plain-room : i < length a → getD a i 0 ≢ 255 → o < length b
   plain-room h e = omega (arith, decoding-same, left-fits, ap length (decode-one a i h e))
 
-  pub plain-turn : i < length a → getD a i 0 ≢ 255 → Decoding a d (i + 1) (o + 1) (set b o (getD a i 0))
+  pub plain-turn : i < length a → getD a i 0 ≢ 255 → Decoding a d f at (i + 1) (o + 1) (set b o (getD a i 0))
   plain-turn h e = record {
     grown = grown-byte (s .grown) (getD a i 0) (decode (drop (i + 1) a)) (decode-one a i h e) (omega (arith, plain-room h e, decoding-same));
     fits = s .fits;
   }
 
-  pub decoding-all : length a ≤ i → b ≡ pasted d 0 (decode a)
-  decoding-all h = grown-all (s .grown) (decode-end a i h)
+  -- a piece without 0xFF from i up to e
+  module _ (h : i ≤ length a) {e : ℕ} (l : i ≤ e) (q : e ≤ i + untilEither 255 255 (drop i a)) where
+    pub piece-turn : {b′ : List ℕ} → b′ ≡ pasted b o (part a i e) → Decoding a d f at e (o + (e - i)) b′
+    piece-turn u = record {
+      grown =
+          grown-piece (s .grown) (part a i e) (decode (drop e a)) (decode-part a i l q)
+          (omega (arith, left-fits, length-piece a i l q h, length-part a i l q h)) (omega (arith, length-part a i l q h)) u;
+      fits = s .fits;
+    }
+
+  pub piece-room : i ≤ length a → o + untilEither 255 255 (drop i a) ≤ length b
+  piece-room h =
+      let n : ℕ = untilEither 255 255 (drop i a) in
+      let k : i + n - i ≡ n = omega arith in
+      omega (arith, decoding-same, left-fits, length-piece a i {e = i + n} (omega arith) (omega arith) h)
+
+  pub rest-fits : o + length (decode (drop i a)) ≤ length b
+  rest-fits = omega (arith, decoding-same, left-fits)
+
+  pub passed-turn : {j p : ℕ} {b′ : List ℕ} → Passed a b i o j p b′ → Decoding a d f at j p b′
+  passed-turn {j} {p} w = record {
+    grown =
+        grown-piece (s .grown) (w .piece) (decode (drop j a)) (w .told)
+        (omega (arith, left-fits, ap length (w .told), length-append (w .piece) (decode (drop j a)))) (sym (w .end)) (w .written);
+    fits = s .fits;
+  }
+
+  pub passed-all : Passed a d f at i o b
+  passed-all = record { piece = s .grown .done; told = sym (s .grown .joined); end = s .grown .upto; written = s .grown .so-far }
+
+pub decoding-all : {a d : List ℕ} {i o : ℕ} {b : List ℕ} → Decoding a d 0 0 i o b → length a ≤ i → b ≡ pasted d 0 (decode a)
+decoding-all {a = a} {i = i} s h = grown-all (s .grown) (decode-end a i h)
 
 -- ---- the loop that tests the spelling
 

@@ -6,3 +6,4 @@ pub mod RecodeLaws
 pub mod DecodeTurns
 pub mod EncodeTurns
 pub mod RecodeTurns
+pub mod StopLaws

@@ -1,9 +1,9 @@
 -- The laws of `writtenOf` and `writtenIn`: bytes that fit, and bytes that do not.
-use Prim.Native.Nat.{ℕ, _-_, _≤_, _<_}
+use Prim.Native.Nat.{ℕ, _+_, _-_, _≤_, _<_}
 use mathlib.Core.Path.{_≡_, sym, ap, _∙_}
 use mathlib.Core.List.{List}
 use native.Mathlib.Omega.{arith}
-use lib.ListN.{length}
+use lib.ListN.{length, take, drop, length-take}
 use lib.Dec.{leb}
 use borrow.Author.Tests.{le-leb, lt-leb, leb-true, leb-false}
 use borrow.Rule.Slice.PartMut.{putMid, midOf, mid-len}
@@ -12,7 +12,7 @@ use Rattle.lists.specs.Pasted.{pasted}
 use Rattle.lists.proofs.PastedLaws.{part-copied}
 use Rattle.lists.proofs.Tests.{split, clash}
 use Rattle.values.specs.declared.Written.the-variants.{Length, NoRoom}
-use Rattle.values.specs.Value.{writtenOf, writtenIn}
+use Rattle.values.specs.Value.{writtenOf, writtenIn, part}
 
 module _ (l : List ℕ) (room : ℕ) where
   pub written-fits : length l ≤ room → writtenOf l room ≡ Length (length l)
@@ -63,3 +63,11 @@ part-written d a e w last h k n q =
     part-copied d a e w last h k (omega arith)
     (q ∙ pasted-in w (midOf a (e - a) d) (omega arith)
     ∙ ap (pasted (midOf a (e - a) d) 0) (sym (take-all (length (midOf a (e - a) d)) w (omega arith))))
+
+-- the bytes from `from` up to `to` of l, copied to a lent part of d that is as long
+pub part-put : (d l : List ℕ) (from to at : ℕ) (last : List ℕ) → at + (to - from) ≤ length d
+    → last ≡ pasted (midOf at (at + (to - from) - at) d) 0 (take (length (midOf at (at + (to - from) - at) d)) (take (to - from) (drop from l)))
+    → putMid at (at + (to - from) - at) d last ≡ pasted d at (part l from to)
+unfolding part
+part-put d l from to at last h q =
+    part-copied d at (at + (to - from)) (take (to - from) (drop from l)) last (omega arith) h (omega (arith, length-take (to - from) (drop from l))) q

@@ -1,6 +1,7 @@
 -- How a value is stored: 0x01 to 0xFE stand for themselves, and 0xFF begins an escape, which stands for a run of 0x00 or of 0xFF.
 use Prim.Native.Nat.{ℕ, zero, suc, _+_, _-_, _/_, _%_}
 use mathlib.Core.Bool.{Bool, true, false, _&&_, _||_, not}
+use mathlib.Core.Path.{_≡_}
 use mathlib.Core.List.{List, [], _∷_, _++_}
 use lib.ListN.{length, take, drop, replicate}
 use lib.Dec.{leb, ltb, eqb}
@@ -105,11 +106,20 @@ writtenOf l room = pickWritten (leb (length l) room) (Length (length l)) NoRoom
 unfoldable pub writtenIn : List ℕ → List ℕ → List ℕ
 writtenIn l buffer = pickBytes (leb (length l) (length buffer)) (pasted buffer 0 l) buffer
 
--- ---- a stored value made canonical in its place
+-- ---- a part of a list
 
 -- the bytes from `from` up to `to`
 unfoldable pub part : List ℕ → ℕ → ℕ → List ℕ
 part l from to = take (to - from) (drop from l)
+
+-- what the stored bytes s stand for from the place i up to j is written to the buffer d from o up to p, and gives b
+pub record Passed (s d : List ℕ) (i o j p : ℕ) (b : List ℕ) : Type 0 where
+  pub piece : List ℕ
+  pub told : decode (drop i s) ≡ piece ++ decode (drop j s)
+  pub end : o + length piece ≡ p
+  pub written : b ≡ pasted d o piece
+
+-- ---- a stored value made canonical in its place
 
 -- at ≤ from ≤ to ≤ length, and the bytes from `from` up to `to` stand for a value
 unfoldable pub recodable : List ℕ → ℕ → ℕ → ℕ → Bool

@@ -1,77 +1,70 @@
 -- `values::decode_to` meets its contract. The loop's invariant: the value's first o bytes are in the buffer, and the bytes from i on stand for the rest.
-use Prim.Native.Nat.{_-_}
+use Prim.Native.Nat.{_≤_, _-_}
+use mathlib.Core.Logic.{⊎-elim}
 use native.Mathlib.Omega.{arith}
 use lib.ListN.{length}
-use Rattle.values.proofs.DecodeTurns.{Decoding, decoding-none, decoding-same, run-room, run-turn, stop-turn, plain-room, plain-turn, decoding-all}
+use Rattle.lists.proofs.FindLaws.{plain-inside}
+use Rattle.values.proofs.DecodeTurns.{Decoding, decoding-none, decoding-same, piece-room, piece-turn, rest-fits, passed-turn, decoding-all}
 use borrow.Author.Needs.{needs}
 use Rattle.values.proofs.decode_to.Statement.{statement}
 use Rattle.values.proofs.decode_to.Tie as tie
 
 abbrev Inv-loop : tie.InvT-loop
-Inv-loop stored buffer₀ i₀ o₀ buffer i o = Decoding stored buffer₀ i o buffer
+Inv-loop stored buffer₀ i₀ o₀ buffer i o = (i ≤ length stored) × Decoding stored buffer₀ 0 0 i o buffer
 
 abbrev μ-loop : tie.MeasureT-loop
 μ-loop stored buffer₀ i₀ o₀ buffer i o = length stored - i
 
 loop-holds : tie.Need-loop-holds Inv-loop μ-loop
-loop-holds c = decoding-none _ _ (search needs)
+loop-holds c = (search needs, decoding-none _ _ 0 0 (search needs))
 
-shared-slice-read-b : tie.Need-shared-slice-read-b Inv-loop μ-loop
-shared-slice-read-b c = search needs
+copy-long-requires : tie.Need-copy-long-requires Inv-loop μ-loop
+copy-long-requires c κs = (search needs, piece-room (c .before .before .loop .inv .1) (search needs))
 
-add-i : tie.Need-add-i Inv-loop μ-loop
-add-i c = search needs
+sub-o : tie.Need-sub-o Inv-loop μ-loop
+sub-o c = search needs
 
-shared-slice-read-c : tie.Need-shared-slice-read-c Inv-loop μ-loop
-shared-slice-read-c c = search needs
+add-o : tie.Need-add-o Inv-loop μ-loop
+add-o c =
+    let l = c .before .before .before .before .before in
+    let k = c .before .before .copy-long .ensures in
+    let p = piece-turn (l .loop .inv .1) (search needs) (k .0 .0) (k .0 .1) (k .1) in
+    omega (arith, rest-fits p, decoding-same p)
 
-cast-e : tie.Need-cast-e Inv-loop μ-loop
-cast-e c = search needs
+next-stop-requires : tie.Need-next-stop-requires Inv-loop μ-loop
+next-stop-requires c κs =
+    let l = c .before .before .before .before .before in
+    let k = c .before .before .copy-long .ensures in
+    plain-inside (l .before .before .before .args .stored .now) (l .loop .i) 255 255 (k .0 .0) (k .0 .1) (search needs)
 
-add-e : tie.Need-add-e Inv-loop μ-loop
-add-e c = omega (arith, run-room (c .before .before .before .before .before .loop .inv) (search needs) (c .before .before .if1 .taken))
-
-run-byte-requires : tie.Need-run-byte-requires Inv-loop μ-loop
-run-byte-requires c κs = search needs
-
-fill-requires : tie.Need-fill-requires Inv-loop μ-loop
-fill-requires c κs =
-    omega (arith, run-room (c .before .before .before .before .before .before .before .loop .inv) (search needs) (c .before .before .before .before .if1 .taken))
-
-add-i-2 : tie.Need-add-i-2 Inv-loop μ-loop
-add-i-2 c = search needs
+decode-few-requires : tie.Need-decode-few-requires Inv-loop μ-loop
+decode-few-requires c κs =
+    let l = c .before .before .before .before .before .before .before in
+    let k = c .before .before .before .before .copy-long .ensures in
+    let p = piece-turn (l .loop .inv .1) (search needs) (k .0 .0) (k .0 .1) (k .1) in
+    ((plain-inside (l .before .before .before .args .stored .now) (l .loop .i) 255 255 (k .0 .0) (k .0 .1) (search needs), c .before .next-stop .ensures .0), rest-fits p)
 
 loop-less : tie.Need-loop-less Inv-loop μ-loop
-loop-less c = search needs
+loop-less c =
+    let l = c .before .before .before .before .before .before .before .before .before .before in
+    let k = c .before .before .before .before .before .before .before .copy-long .ensures in
+    let a = k .0 .0 in
+    let h = c .before .before .decode-few .ensures .0 in
+    ⊎-elim (λ w. omega arith) (λ w. omega arith) (c .before .before .before .before .next-stop .ensures .1)
 
 loop-again : tie.Need-loop-again Inv-loop μ-loop
 loop-again c =
-    run-turn (c .before .before .before .before .before .before .before .before .before .before .loop .inv) (search needs)
-    (c .before .before .before .before .before .before .before .if1 .taken) (c .before .before .before .run-byte .ensures) (c .before .before .fill .ensures)
-
-loop-less-2 : tie.Need-loop-less-2 Inv-loop μ-loop
-loop-less-2 c = search needs
-
-loop-again-2 : tie.Need-loop-again-2 Inv-loop μ-loop
-loop-again-2 c = stop-turn (c .before .before .before .before .loop .inv) (search needs) (search needs) (c .before .if1 .taken)
-
-slice-write-buffer : tie.Need-slice-write-buffer Inv-loop μ-loop
-slice-write-buffer c = plain-room (c .before .before .before .loop .inv) (search needs) (c .if1 .left)
-
-add-o : tie.Need-add-o Inv-loop μ-loop
-add-o c = omega (arith, plain-room (c .before .before .before .loop .inv) (search needs) (c .if1 .left))
-
-loop-less-3 : tie.Need-loop-less-3 Inv-loop μ-loop
-loop-less-3 c = search needs
-
-loop-again-3 : tie.Need-loop-again-3 Inv-loop μ-loop
-loop-again-3 c = plain-turn (c .before .before .before .loop .inv) (search needs) (c .if1 .left)
+    let l = c .before .before .before .before .before .before .before .before .before .before in
+    let k = c .before .before .before .before .before .before .before .copy-long .ensures in
+    let f = c .before .before .decode-few .ensures in
+    let p = piece-turn (l .loop .inv .1) (search needs) (k .0 .0) (k .0 .1) (k .1) in
+    (f .0 .1, passed-turn p (f .1))
 
 same-length : tie.Need-same-length Inv-loop μ-loop
-same-length c = decoding-same (c .before .loop .inv)
+same-length c = decoding-same (c .before .loop .inv .1)
 
 returns : tie.Need-returns Inv-loop μ-loop
-returns c = decoding-all (c .before .loop .inv) (search needs)
+returns c = decoding-all (c .before .loop .inv .1) (search needs)
 
 pub decode-to-spec : {M : Type 1} → statement M
 decode-to-spec =
@@ -80,21 +73,12 @@ decode-to-spec =
     Inv-loop
     μ-loop
     loop-holds
-    shared-slice-read-b
-    add-i
-    shared-slice-read-c
-    cast-e
-    add-e
-    run-byte-requires
-    fill-requires
-    add-i-2
+    copy-long-requires
+    sub-o
+    add-o
+    next-stop-requires
+    decode-few-requires
     loop-less
     loop-again
-    loop-less-2
-    loop-again-2
-    slice-write-buffer
-    add-o
-    loop-less-3
-    loop-again-3
     same-length
     returns)
