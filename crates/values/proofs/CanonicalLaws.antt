@@ -5,10 +5,10 @@ use mathlib.Core.Bool.{true, false}
 use mathlib.Core.List.{List, [], _∷_, _++_, append-nil}
 use mathlib.Core.Logic.{_≢_, _⊎_, inl, inr, _↔_}
 use native.Mathlib.Omega.{arith}
-use lib.ListN.{replicate}
+use lib.ListN.{length, replicate}
 use lib.Dec.{eqb}
 use borrow.Author.Tests.{eqb-true, eqb-false, ne-eqb}
-use Rattle.lists.specs.Bytes.{AllBytes}
+use Rattle.lists.specs.Bytes.{Every, AllBytes}
 use Rattle.lists.proofs.Tests.{split, clash}
 use Rattle.values.specs.Value.{mark, fullEscapes, restEscape, runBytes, escaped, encodeFrom, encode}
 use Rattle.values.specs.Rules.{Escapes, full, rest, none, Begins, Canonical, nothing, itself, zeros, ones}
@@ -84,6 +84,17 @@ encode-longest b n v t z q = first (escaped-cases b t) ∙ encode-stop b n v q
 pub encode-itself : (x : ℕ) (v : List ℕ) → escaped x ≡ false → encode (x ∷ v) ≡ x ∷ encode v
 unfolding encode
 encode-itself x v t = encode-plain 0 0 x v t ∙ ap (λ (r : List ℕ). r ++ x ∷ encodeFrom 0 0 v) (run-short 0 0 (omega arith) ∙ rest-none 0 0 refl)
+
+-- a piece without 0x00 and 0xFF
+pub encode-piece : (p v : List ℕ) → Every (λ x. escaped x ≡ false) p → encode (p ++ v) ≡ p ++ encode v
+encode-piece [] v h = refl
+encode-piece (x ∷ p) v h = encode-itself x (p ++ v) (h .0) ∙ ap (λ (w : List ℕ). x ∷ w) (encode-piece p v (h .1))
+
+-- and after an open run
+pub encode-after : (b n : ℕ) (p v : List ℕ) → Every (λ x. escaped x ≡ false) p → 0 < length p → encodeFrom b n (p ++ v) ≡ runBytes b n ++ (p ++ encodeFrom 0 0 v)
+unfolding encode
+encode-after b n [] v h k = absurd (omega arith)
+encode-after b n (x ∷ p) v h k = encode-plain b n x (p ++ v) (h .0) ∙ ap (λ (w : List ℕ). runBytes b n ++ x ∷ w) (encode-piece p v (h .1))
 
 pub encode-empty : encode [] ≡ []
 unfolding encode

@@ -173,9 +173,14 @@ unfolding decode
 bytes-decode s h = bytes-from false s h
 
 -- a piece without 0xFF stands for itself
-pub decode-piece : (p s : List ℕ) → Every (λ x. either 255 255 x ≡ false) p → decode (p ++ s) ≡ p ++ decode s
-decode-piece [] s h = refl
-decode-piece (x ∷ p) s h = decode-plain x (p ++ s) (either-not 255 255 x (h .0) .0) ∙ ap (λ (r : List ℕ). x ∷ r) (decode-piece p s (h .1))
+pub decode-piece : (b : ℕ) (p s : List ℕ) → Every (λ x. either b 255 x ≡ false) p → decode (p ++ s) ≡ p ++ decode s
+decode-piece b [] s h = refl
+decode-piece b (x ∷ p) s h = decode-plain x (p ++ s) (either-not b 255 x (h .0) .1) ∙ ap (λ (r : List ℕ). x ∷ r) (decode-piece b p s (h .1))
+
+-- a piece without 0x00 and 0xFF is spelled
+pub spelled-piece : (p s : List ℕ) → Every (λ x. either 0 255 x ≡ false) p → spelled (p ++ s) ≡ spelled s
+spelled-piece [] s h = refl
+spelled-piece (x ∷ p) s h = let n = either-not 0 255 x (h .0) in spelled-plain x (p ++ s) (n .0) (n .1) ∙ spelled-piece p s (h .1)
 
 -- ---- one turn, at the place i of l
 
@@ -210,7 +215,7 @@ module _ (l : List ℕ) (i : ℕ) where
 module _ (l : List ℕ) (i : ℕ) {e : ℕ} (h : i ≤ e) (q : e ≤ i + untilEither 255 255 (drop i l)) where
   pub decode-part : decode (drop i l) ≡ part l i e ++ decode (drop e l)
   unfolding part
-  decode-part = ap decode (plain-cut l i 255 255 h q) ∙ decode-piece (take (e - i) (drop i l)) (drop e l) (plain-bytes l i 255 255 h q)
+  decode-part = ap decode (plain-cut l i 255 255 h q) ∙ decode-piece 255 (take (e - i) (drop i l)) (drop e l) (plain-bytes l i 255 255 h q)
 
   pub length-part : i ≤ length l → length (part l i e) ≡ e - i
   unfolding part

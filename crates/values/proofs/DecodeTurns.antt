@@ -5,18 +5,19 @@ use mathlib.Core.List.{List, [], _∷_}
 use mathlib.Core.Logic.{_≢_, _⊎_, inl, inr}
 use mathlib.Core.Bool.{true, false}
 use native.Mathlib.Omega.{arith}
-use lib.ListN.{length, getD, set, drop, replicate, length-append, drop-of-length-le}
+use lib.ListN.{length, getD, set, take, drop, replicate, length-append, drop-of-length-le}
 use lib.Dec.{eqb}
 use borrow.Author.Tests.{eqb-true, eqb-false}
 use Rattle.lists.specs.Find.{untilEither}
 use Rattle.lists.specs.Pasted.{pasted}
 use Rattle.lists.proofs.Grown.{Grown, grown-none, grown-as, grown-same, grown-piece, grown-byte, grown-all}
 use Rattle.lists.proofs.Tests.{split}
+use Rattle.lists.proofs.FindLaws.{either-piece, either-plain}
 use Rattle.values.specs.declared.Written.the-variants.{Length, NoRoom}
 use Rattle.values.specs.Value.{runByte, run, decode, writtenOf, spelledFrom, spelled, part, Passed}
 use Rattle.lists.proofs.ListLaws.{drop-next}
 use Rattle.lists.proofs.Grown.{grown-left}
-use Rattle.values.proofs.DecodeLaws.{length-run, decode-end, decode-one, decode-two, decode-stop, decode-part, length-one, length-two, length-part, length-piece, spelled-plain, spelled-escape, empty-spelled}
+use Rattle.values.proofs.DecodeLaws.{length-run, decode-end, decode-one, decode-two, decode-stop, decode-part, length-one, length-two, length-part, length-piece, spelled-piece, spelled-escape, empty-spelled}
 use Rattle.values.proofs.WrittenLaws.{written-not, count-fits}
 
 -- ---- the loop that counts: n bytes of the value, so far no more than the room
@@ -176,8 +177,10 @@ module _ {s : List ℕ} {i : ℕ} (p : Spelling s i) where
   spelling-run h e z =
       record { left = two h e ∙ spelled-escape (getD s (i + 1) 0) (drop (i + 1 + 1) s) (λ q. omega arith) (λ q. omega arith) }
 
-  pub spelling-plain : i < length s → getD s i 0 ≢ 0 → getD s i 0 ≢ 255 → Spelling s (i + 1)
-  spelling-plain h z e = record { left = here h refl ∙ spelled-plain (getD s i 0) (drop (i + 1) s) z e }
+  pub spelling-piece : {e : ℕ} → e ≡ i + untilEither 0 255 (drop i s) → Spelling s e
+  spelling-piece {e} q = record {
+    left = p .left ∙ ap spelled (either-piece s i 0 255 q) ∙ spelled-piece (take (e - i) (drop i s)) (drop e s) (either-plain s i 0 255 q);
+  }
 
   pub spelling-all : length s ≤ i → true ≡ spelled s
   spelling-all h = sym (p .left ∙ ap spelled (drop-of-length-le s h) ∙ empty-spelled)

@@ -2,14 +2,15 @@
 use Prim.Native.Nat.{ℕ, suc, _+_, _-_, _%_, _≤_, _<_}
 use mathlib.Core.Path.{_≡_, refl, sym, ap, _∙_}
 use mathlib.Core.Bool.{true, false, _&&_}
-use mathlib.Core.List.{List, [], _∷_, _++_}
+use mathlib.Core.List.{List, [], _∷_, _++_, append-assoc}
 use mathlib.Core.Logic.{_≢_}
 use native.Mathlib.Omega.{arith}
-use lib.ListN.{length, getD, take, drop, replicate, length-drop}
+use lib.ListN.{length, getD, take, drop, replicate, length-drop, take-append-drop}
 use lib.Dec.{leb, ltb}
-use lib.Seq.{length-take-le}
+use lib.Seq.{length-take-le, take-add, drop-drop}
 use borrow.Author.Tests.{le-leb, leb-true, ltb-true, ltb-false}
-use Rattle.lists.specs.Pasted.{pasted}
+use Rattle.lists.specs.Pasted.{pasted, movedBytes}
+use Rattle.lists.proofs.MoveLaws.{moved-inside}
 use Rattle.lists.specs.Bytes.{AllBytes}
 use Rattle.lists.proofs.Tests.{split, clash, and-true}
 use Rattle.lists.proofs.ByteLaws.{every-take, every-drop}
@@ -32,6 +33,27 @@ part-next l i e h k =
 pub part-none : (l : List ℕ) (i e : ℕ) → e ≤ i → part l i e ≡ []
 unfolding part
 part-none l i e h = let n : e - i ≡ 0 = omega arith in rw n
+
+-- the first k bytes, and the rest
+pub part-cut : (l : List ℕ) (i k e : ℕ) → i + k ≤ e → part l i e ≡ take k (drop i l) ++ part l (i + k) e
+unfolding part
+part-cut l i k e h =
+    let n : e - i ≡ k + (e - (i + k)) = omega arith in
+    ap (λ (m : ℕ). take m (drop i l)) n ∙ take-add k (e - (i + k)) (drop i l)
+    ∙ ap (λ (r : List ℕ). take k (drop i l) ++ take (e - (i + k)) r) (drop-drop k i l)
+
+-- bytes written over themselves
+pub pasted-same : (d : List ℕ) (at n : ℕ) → at + n ≤ length d → d ≡ pasted d at (take n (drop at d))
+unfolding pasted
+pasted-same d at n h =
+    let k : length (take n (drop at d)) ≡ n = length-take-le n (drop at d) (omega (arith, length-drop at d)) in
+    sym (rw k (append-assoc (take at d) (take n (drop at d)) (drop (at + n) d)
+    ∙ ap (λ (r : List ℕ). take at d ++ (take n (drop at d) ++ r)) (sym (drop-drop n at d))
+    ∙ ap (λ (r : List ℕ). take at d ++ r) (take-append-drop n (drop at d)) ∙ take-append-drop at d))
+
+-- bytes moved down
+pub piece-moved : (d : List ℕ) (from to n : ℕ) → to ≤ from → from + n ≤ length d → movedBytes d from to n ≡ pasted d to (take n (drop from d))
+piece-moved d from to n h k = sym (moved-inside d from to n (omega arith) (omega arith) (omega arith))
 
 -- ---- what a test has shown
 

@@ -1,20 +1,26 @@
 -- The turns of the loop that makes a stored value canonical in place: at the place i of the area.
 use Prim.Native.Nat.{ℕ, _+_, _-_, _%_, _≤_, _<_}
-use mathlib.Core.Path.{_≡_, refl, sym, ap, _∙_, subst}
+use mathlib.Core.Path.{_≡_, refl, sym, ap, _∙_}
 use mathlib.Core.Bool.{true, false}
 use mathlib.Core.List.{List, [], _∷_, _++_, append-nil}
 use mathlib.Core.Logic.{_≢_}
 use native.Mathlib.Omega.{arith}
-use lib.ListN.{length, set, getD}
+use lib.ListN.{length, getD, take, drop, length-take, length-drop}
+use lib.Seq.{take-take, length-take-le}
 use lib.Dec.{leb}
 use borrow.Author.Tests.{ne-eqb, leb-true, leb-false}
+use Rattle.lists.specs.Bytes.{Every}
+use Rattle.lists.specs.Find.{untilEither}
 use Rattle.lists.specs.Pasted.{pasted}
+use Rattle.lists.proofs.PastedLaws.{drop-pasted-after}
+use Rattle.lists.proofs.FindLaws.{until-next, until-short, until-before}
 use Rattle.lists.proofs.Tests.{split}
-use Rattle.lists.proofs.Grown.{Grown, grown-none, grown-same, grown-after, grown-as, grown-piece, grown-byte, grown-all, grown-end}
+use Rattle.lists.proofs.Grown.{Grown, grown-none, grown-same, grown-after, grown-as, grown-piece, grown-all, grown-end}
 use Rattle.values.specs.Value.{runByte, run, decode, spelled, mark, runBytes, escaped, encodeFrom, encode, part, recoded}
-use Rattle.values.proofs.DecodeLaws.{decode-none, decode-plain, decode-escape, plain-spelled, escape-spelled, cut-spelled, PlainSpelled, EscapeSpelled}
-use Rattle.values.proofs.EncodeLaws.{length-run-bytes, encode-none, encode-plain}
-use Rattle.values.proofs.RecodeLaws.{part-next, part-none, Recodable, run-same, run-other, encode-full}
+use Rattle.values.proofs.DecodeLaws.{decode-none, decode-piece, decode-escape, spelled-piece, plain-spelled, escape-spelled, cut-spelled, PlainSpelled, EscapeSpelled}
+use Rattle.values.proofs.EncodeLaws.{length-run-bytes, encode-none}
+use Rattle.values.proofs.CanonicalLaws.{encode-after}
+use Rattle.values.proofs.RecodeLaws.{part-next, part-none, part-cut, Recodable, run-same, run-other, encode-full}
 
 -- l is the area at the start, b what it is now. The canonical form is written up to o, a run of n times y is open, and i is the next byte to read.
 
@@ -37,6 +43,13 @@ recoding-none l from to at r = record {
   inside = r .inside;
 }
 
+-- what is not yet written over is as it was
+grown-drop : {all d : List ℕ} {at o : ℕ} {r b : List ℕ} (s : Grown all d at o r b) (j : ℕ) → o ≤ j → drop j b ≡ drop j d
+grown-drop {d = d} {at = at} s j h =
+    let u = s .upto in
+    let k = s .room in
+    ap (drop j) (s .so-far) ∙ drop-pasted-after d at (s .done) (omega arith) j (omega arith)
+
 module _ {l : List ℕ} {from to at : ℕ} {b : List ℕ} {i o y n : ℕ} (s : Recoding l from to at b i o y n) where
   pub recoding-same : length b ≡ length l
   recoding-same = grown-same (s .grown)
@@ -46,6 +59,9 @@ module _ {l : List ℕ} {from to at : ℕ} {b : List ℕ} {i o y n : ℕ} (s : R
 
   here-now : getD b i 0 ≡ getD l i 0
   here-now = grown-after (s .grown) i (omega (arith, s .behind))
+
+  still-there : drop i b ≡ drop i l
+  still-there = grown-drop (s .grown) i (omega (arith, s .behind))
 
   next-now : getD b (i + 1) 0 ≡ getD l (i + 1) 0
   next-now = grown-after (s .grown) (i + 1) (omega (arith, s .behind))
@@ -143,35 +159,65 @@ module _ {l : List ℕ} {from to at : ℕ} {b : List ℕ} {i o y n : ℕ} (s : R
               inside = s .inside;
             }
 
-    module _ (e : getD b i 0 ≢ 255) {o′ : ℕ} {b′ : List ℕ} (f : o′ ≡ o + length (runBytes y n)) (u : b′ ≡ pasted b o (runBytes y n)) where
+    -- a piece of k bytes without 0x00 and 0xFF
+    module _ (e : getD b i 0 ≢ 255) {k : ℕ} (q : k ≡ 0 + untilEither 0 255 (drop 0 (take (to - i) (drop i b)))) where
       plain-shown : PlainSpelled (getD l i 0) (part l (i + 1) to)
       plain-shown = plain-spelled (getD l i 0) (part l (i + 1) to) (λ z. e (here-now ∙ z)) (ap spelled (sym first) ∙ s .valid)
 
       not-escaped : escaped (getD l i 0) ≡ false
       not-escaped = cc (ne-eqb (getD l i 0) 0 (plain-shown .some), ne-eqb (getD l i 0) 255 (λ z. e (here-now ∙ z)))
 
-      flushed : Grown (recoded l from to) l at o′ (getD l i 0 ∷ encodeFrom 0 0 (decode (part l (i + 1) to))) b′
-      flushed =
-          grown-piece (s .grown) (runBytes y n) (getD l i 0 ∷ encodeFrom 0 0 (decode (part l (i + 1) to)))
-          (ap (λ (r : List ℕ). encodeFrom y n (decode r)) first
-          ∙ ap (encodeFrom y n) (decode-plain (getD l i 0) (part l (i + 1) to) (λ z. e (here-now ∙ z)))
-          ∙ encode-plain y n (getD l i 0) (decode (part l (i + 1) to)) not-escaped)
-          (omega (arith, flush-fits, recoding-same)) f u
+      same-part : take (to - i) (drop i b) ≡ part l i to
+      unfolding part
+      same-part = ap (take (to - i)) still-there
 
-      pub plain-room : o′ + 1 ≤ length b′
-      plain-room = omega (arith, grown-same flushed, s .behind, s .inside)
+      count : k ≡ untilEither 0 255 (part l i to)
+      count = omega (arith, ap (untilEither 0 255) same-part)
 
-      pub plain-turn : Recoding l from to at (set b′ o′ (getD b i 0)) (i + 1) (o′ + 1) 0 0
-      plain-turn = record {
-        grown =
-            subst (λ (x : ℕ). Grown (recoded l from to) l at (o′ + 1) (encodeFrom 0 0 (decode (part l (i + 1) to))) (set b′ o′ x)) (sym here-now)
-            (grown-byte flushed (getD l i 0) (encodeFrom 0 0 (decode (part l (i + 1) to))) refl (omega (arith, plain-room, grown-same flushed)));
-        valid = plain-shown .left;
-        behind = omega (arith, s .behind, length-run-bytes 0 0);
-        few = omega arith;
-        not-past = omega arith;
-        inside = s .inside;
-      }
+      pub some-bytes : 0 < k
+      some-bytes = omega (arith, count, ap (untilEither 0 255) first ∙ until-next 0 255 (getD l i 0) (part l (i + 1) to) not-escaped)
+
+      pub piece-in : i + k ≤ to
+      unfolding part
+      piece-in = omega (arith, count, until-short 0 255 (part l i to), length-take (to - i) (drop i l))
+
+      cut : part l i to ≡ take k (drop i l) ++ part l (i + k) to
+      cut = part-cut l i k to piece-in
+
+      same-bytes : take k (part l i to) ≡ take k (drop i l)
+      unfolding part
+      same-bytes = take-take k (to - i) (drop i l) (omega (arith, piece-in))
+
+      plain-bytes : Every (λ x. escaped x ≡ false) (take k (drop i l))
+      plain-bytes = rw (← same-bytes, count) (until-before 0 255 (part l i to))
+
+      long : length (take k (drop i l)) ≡ k
+      long = length-take-le k (drop i l) (omega (arith, piece-in, s .inside, length-drop i l))
+
+      module _ {o′ : ℕ} {b′ : List ℕ} (f : o′ ≡ o + length (runBytes y n)) (u : b′ ≡ pasted b o (runBytes y n)) where
+        flushed : Grown (recoded l from to) l at o′ (take k (drop i l) ++ encodeFrom 0 0 (decode (part l (i + k) to))) b′
+        flushed =
+            grown-piece (s .grown) (runBytes y n) (take k (drop i l) ++ encodeFrom 0 0 (decode (part l (i + k) to)))
+            (ap (λ (r : List ℕ). encodeFrom y n (decode r)) cut
+            ∙ ap (encodeFrom y n) (decode-piece 0 (take k (drop i l)) (part l (i + k) to) plain-bytes)
+            ∙ encode-after y n (take k (drop i l)) (decode (part l (i + k) to)) plain-bytes (omega (arith, long, some-bytes)))
+            (omega (arith, flush-fits, recoding-same)) f u
+
+        pub move-fits : (o′ ≤ i) × (i + k ≤ length b′)
+        move-fits = (omega (arith, s .behind), omega (arith, grown-same flushed, piece-in, s .inside))
+
+        pub piece-turn : {b″ : List ℕ} → b″ ≡ pasted b′ o′ (take k (drop i b′)) → Recoding l from to at b″ (i + k) (o′ + k) 0 0
+        piece-turn v = record {
+          grown =
+              grown-piece flushed (take k (drop i l)) (encodeFrom 0 0 (decode (part l (i + k) to))) refl
+              (omega (arith, long, piece-in, s .inside, s .behind)) (omega (arith, long))
+              (v ∙ ap (λ (r : List ℕ). pasted b′ o′ (take k r)) (grown-drop flushed i (omega (arith, s .behind))));
+          valid = sym (spelled-piece (take k (drop i l)) (part l (i + k) to) plain-bytes) ∙ ap spelled (sym cut) ∙ s .valid;
+          behind = omega (arith, s .behind, length-run-bytes 0 0);
+          few = omega arith;
+          not-past = piece-in;
+          inside = s .inside;
+        }
 
   module _ (h : to ≤ i) {o′ : ℕ} {b′ : List ℕ} (f : o′ ≡ o + length (runBytes y n)) (u : b′ ≡ pasted b o (runBytes y n)) where
     ended : Grown (recoded l from to) l at o′ [] b′

@@ -2,7 +2,7 @@
 ghost use mathlib.Core.Path.{_≡_};
 ghost use mathlib.Core.List.{[], _∷_};
 ghost use Prim.Native.Nat.{_+_, _-_, _≤_};
-ghost use lib.ListN.{length, drop, replicate};
+ghost use lib.ListN.{length, take, drop, replicate};
 ghost use Rattle.lists.specs.Pasted.{pasted};
 ghost use Rattle.lists.specs.Find.{untilEither};
 ghost use mathlib.Core.Bool.{true};
@@ -29,6 +29,34 @@ fn next_stop(from: usize, len: usize) -> usize
     ensures { λ r. ⌜ (r ≤ len) × ((r ≡ len) ⊎ (r ≡ from + 128)) ⌝ }
 {
     if len - from < 128 { len } else { from + 128 }
+}
+
+// The end of the bytes from `from` on that are looked at one by one.
+fn near_end(from: usize, len: usize) -> usize
+    requires { ⌜ from ≤ len ⌝ }
+    ensures { λ r. ⌜ r ≤ len ⌝ }
+{
+    if len - from < 16 { len } else { from + 16 }
+}
+
+// The first place from `from` on where b or c stands, or the end: most are near, and the nearest bytes are looked at one by one.
+fn plain_end(s: &[u8], from: usize, b: u8, c: u8) -> usize
+    requires { ⌜ from ≤ length (now s) ⌝ }
+    ensures { λ r. ⌜ r ≡ from + untilEither b c (drop from (now (s .entry))) ⌝ }
+{
+    let near = near_end(from, s.len());
+    let mut e = from;
+    while e < near {
+        let x = s[e];
+        if x == b {
+            return e;
+        }
+        if x == c {
+            return e;
+        }
+        e += 1;
+    }
+    lists::find_either(s, e, b, c)
 }
 
 // The byte that an escape repeats, by its second byte.
@@ -179,11 +207,11 @@ fn is_spelled(stored: &[u8]) -> bool
     let mut i = 0;
     while i < stored.len() {
         let b = stored[i];
-        i += 1;
         if b == 0 {
             return false;
         }
         if b == 255 {
+            i += 1;
             if stored.len() <= i {
                 return false;
             }
@@ -191,6 +219,8 @@ fn is_spelled(stored: &[u8]) -> bool
                 return false;
             }
             i += 1;
+        } else {
+            i = plain_end(stored, i, 0, 255);
         }
     }
     true
@@ -324,6 +354,17 @@ pub fn encode(value: &[u8], buffer: &mut [u8]) -> Written
     Written::Length(n)
 }
 
+// Moves the n bytes at `from` to a place that is not after it; most stay where they are.
+fn move_piece(area: &mut [u8], from: usize, to: usize, n: usize)
+    requires { ⌜ (to ≤ from) × (from + n ≤ length (now area)) ⌝ }
+    ensures { λ _. ⌜ now (area .exit) ≡ pasted (now (area .entry)) to (take n (drop from (now (area .entry)))) ⌝ }
+{
+    if to == from {
+        return;
+    }
+    lists::move_bytes(area, from, to, n);
+}
+
 // Writes the canonical form of the value stored from `from` up to `to` at `at`, and answers the place after it.
 // A run of n times b is open: at most 127, so that a longer one is written as it is read.
 fn recode_to(area: &mut [u8], from: usize, to: usize, at: usize) -> usize
@@ -336,9 +377,8 @@ fn recode_to(area: &mut [u8], from: usize, to: usize, at: usize) -> usize
     let mut b: u8 = 0;
     let mut n: usize = 0;
     while i < to {
-        let x = area[i];
-        i += 1;
-        if x == 255 {
+        if area[i] == 255 {
+            i += 1;
             let c = area[i];
             i += 1;
             let y = run_byte(c);
@@ -355,9 +395,11 @@ fn recode_to(area: &mut [u8], from: usize, to: usize, at: usize) -> usize
                 n = n + k - 127;
             }
         } else {
+            let k = plain_end(&area[i..to], 0, 0, 255);
             o = put_run(area, o, b, n);
-            area[o] = x;
-            o += 1;
+            move_piece(area, i, o, k);
+            o += k;
+            i += k;
             b = 0;
             n = 0;
         }

@@ -2,7 +2,8 @@
 use Prim.Native.Nat.{_+_, _-_}
 use native.Mathlib.Omega.{arith}
 use lib.ListN.{length}
-use Rattle.values.proofs.DecodeTurns.{Spelling, spelling-none, spelling-zero, spelling-cut, spelling-bad, spelling-run, spelling-plain, spelling-all}
+use Rattle.lists.proofs.FindLaws.{either-further}
+use Rattle.values.proofs.DecodeTurns.{Spelling, spelling-none, spelling-zero, spelling-cut, spelling-bad, spelling-run, spelling-piece, spelling-all}
 use borrow.Author.Needs.{needs}
 use Rattle.values.proofs.is_spelled.Statement.{statement}
 use Rattle.values.proofs.is_spelled.Tie as tie
@@ -19,11 +20,11 @@ loop-holds c = spelling-none _
 shared-slice-read-b : tie.Need-shared-slice-read-b Inv-loop μ-loop
 shared-slice-read-b c = search needs
 
-add-i : tie.Need-add-i Inv-loop μ-loop
-add-i c = search needs
-
 returns : tie.Need-returns Inv-loop μ-loop
 returns c = spelling-zero (c .before .before .before .loop .inv) (search needs) (c .if1 .taken)
+
+add-i : tie.Need-add-i Inv-loop μ-loop
+add-i c = search needs
 
 returns-2 : tie.Need-returns-2 Inv-loop μ-loop
 returns-2 c = spelling-cut (c .before .before .before .before .before .loop .inv) (search needs) (c .before .if2 .taken) (search needs)
@@ -34,7 +35,7 @@ shared-slice-read-if4 c = search needs
 returns-3 : tie.Need-returns-3 Inv-loop μ-loop
 returns-3 c =
     let l = c .before .before .before .before .before .before .before .loop in
-    spelling-bad (l .inv) (search needs) (c .before .before .before .if2 .taken) (omega (arith, c .before .shared-slice-known2 .given (l .i + 1))) (c .if4 .taken)
+    spelling-bad (l .inv) (search needs) (c .before .before .before .if2 .taken) (omega (arith, c .before .shared-slice-known3 .given (l .i + 1))) (c .if4 .taken)
 
 add-i-2 : tie.Need-add-i-2 Inv-loop μ-loop
 add-i-2 c = search needs
@@ -45,11 +46,16 @@ loop-less c = search needs
 loop-again : tie.Need-loop-again Inv-loop μ-loop
 loop-again c = spelling-run (c .before .before .before .before .before .before .before .loop .inv) (search needs) (c .before .before .before .if2 .taken) (c .if4 .left)
 
+plain-end-requires : tie.Need-plain-end-requires Inv-loop μ-loop
+plain-end-requires c κs = search needs
+
 loop-less-2 : tie.Need-loop-less-2 Inv-loop μ-loop
-loop-less-2 c = search needs
+loop-less-2 c =
+    let l = c .before .before .before .before .before in
+    omega (arith, either-further (l .before .before .args .stored .now) (l .loop .i) 0 255 (c .plain-end .ensures) (search needs) (c .before .before .if1 .left) (c .before .if2 .left))
 
 loop-again-2 : tie.Need-loop-again-2 Inv-loop μ-loop
-loop-again-2 c = spelling-plain (c .before .before .before .before .loop .inv) (search needs) (c .before .if1 .left) (c .if2 .left)
+loop-again-2 c = spelling-piece (c .before .before .before .before .before .loop .inv) (c .plain-end .ensures)
 
 returns-4 : tie.Need-returns-4 Inv-loop μ-loop
 returns-4 c = spelling-all (c .before .loop .inv) (search needs)
@@ -62,14 +68,15 @@ is-spelled-spec =
     μ-loop
     loop-holds
     shared-slice-read-b
-    add-i
     returns
+    add-i
     returns-2
     shared-slice-read-if4
     returns-3
     add-i-2
     loop-less
     loop-again
+    plain-end-requires
     loop-less-2
     loop-again-2
     returns-4)

@@ -3,7 +3,7 @@ use Prim.Native.Nat.{_+_, _-_}
 use mathlib.Core.Path.{_∙_}
 use native.Mathlib.Omega.{arith}
 use Rattle.values.proofs.RecodeLaws.{recodable-told}
-use Rattle.values.proofs.RecodeTurns.{Recoding, recoding-none, recoding-same, flush-fits, two-in, same-turn, full-room, full-turn, other-turn, plain-room, plain-turn, recoding-place, recoding-all}
+use Rattle.values.proofs.RecodeTurns.{Recoding, recoding-none, recoding-same, flush-fits, two-in, same-turn, full-room, full-turn, other-turn, some-bytes, piece-in, move-fits, piece-turn, recoding-place, recoding-all}
 use borrow.Author.Needs.{needs}
 use Rattle.values.proofs.recode_to.Statement.{statement}
 use Rattle.values.proofs.recode_to.Tie as tie
@@ -17,11 +17,11 @@ abbrev μ-loop : tie.MeasureT-loop
 loop-holds : tie.Need-loop-holds Inv-loop μ-loop
 loop-holds c = recoding-none _ _ _ _ (recodable-told _ _ _ _ (c .before .pre))
 
-slice-read-x : tie.Need-slice-read-x Inv-loop μ-loop
-slice-read-x c = let s = c .before .before .loop .inv in omega (arith, recoding-same s, s .inside)
+slice-read-if1 : tie.Need-slice-read-if1 Inv-loop μ-loop
+slice-read-if1 c = let s = c .before .before .loop .inv in omega (arith, recoding-same s, s .inside)
 
 add-i : tie.Need-add-i Inv-loop μ-loop
-add-i c = let s = c .before .before .loop .inv in omega (arith, recoding-same s, s .inside)
+add-i c = let s = c .before .before .before .loop .inv in omega (arith, recoding-same s, s .inside)
 
 slice-read-c : tie.Need-slice-read-c Inv-loop μ-loop
 slice-read-c c = let s = c .before .before .before .before .loop .inv in omega (arith, recoding-same s, s .inside, two-in s (search needs) (c .before .if1 .taken))
@@ -94,26 +94,58 @@ loop-again-3 c =
     full-turn (d .before .before .before .before .before .before .loop .inv) (search needs) (d .before .before .before .if1 .taken) (d .before .run-byte .ensures) (d .if2 .left) (search needs)
     (c .before .before .before .mark-of .ensures .0) (c .before .before .put-escape .ensures)
 
-put-run-requires-2 : tie.Need-put-run-requires-2 Inv-loop μ-loop
-put-run-requires-2 c κs = flush-fits (c .before .before .before .before .loop .inv)
+sub-plain-end : tie.Need-sub-plain-end Inv-loop μ-loop
+sub-plain-end c = search needs
 
-slice-write-area : tie.Need-slice-write-area Inv-loop μ-loop
-slice-write-area c =
-    let d = c .before .before .before .before in
-    omega (arith, plain-room (d .before .before .before .loop .inv) (search needs) (d .if1 .left) (c .before .before .put-run2 .ensures .0) (c .before .before .put-run2 .ensures .1))
+part-plain-end-start : tie.Need-part-plain-end-start Inv-loop μ-loop
+part-plain-end-start c = search needs
+
+part-plain-end-end : tie.Need-part-plain-end-end Inv-loop μ-loop
+part-plain-end-end c = let s = c .before .before .before .before .loop .inv in omega (arith, recoding-same s, s .inside)
+
+plain-end-requires : tie.Need-plain-end-requires Inv-loop μ-loop
+plain-end-requires c κs = search needs
+
+put-run-requires-2 : tie.Need-put-run-requires-2 Inv-loop μ-loop
+put-run-requires-2 c κs = flush-fits (c .before .before .before .before .before .before .before .loop .inv)
+
+move-piece-requires : tie.Need-move-piece-requires Inv-loop μ-loop
+move-piece-requires c κs =
+    let l = c .before .before .before .before .before .before .before .before .before .before .before .loop in
+    let p = c .before .before .before .put-run2 .ensures in
+    move-fits (l .inv) (search needs) (c .before .before .before .before .before .before .before .before .if1 .left) (c .before .before .before .before .before .plain-end .ensures) (p .0) (p .1)
 
 add-o-2 : tie.Need-add-o-2 Inv-loop μ-loop
 add-o-2 c =
-    let d = c .before .before .before .before in
-    omega (arith, plain-room (d .before .before .before .loop .inv) (search needs) (d .if1 .left) (c .before .before .put-run2 .ensures .0) (c .before .before .put-run2 .ensures .1))
+    let l = c .before .before .before .before .before .before .before .before .before .before .before .before .before .before .loop in
+    let p = c .before .before .before .before .before .before .put-run2 .ensures in
+    let b = c .before .before .before .before .before .before .before .before .before .before .before .if1 .left in
+    let q = c .before .before .before .before .before .before .before .before .plain-end .ensures in
+    omega (arith, move-fits (l .inv) (search needs) b q (p .0) (p .1), recoding-same (l .inv), c .before .before .before .before .before .before .put-run2 .kept .0)
+
+add-i-3 : tie.Need-add-i-3 Inv-loop μ-loop
+add-i-3 c =
+    let l = c .before .before .before .before .before .before .before .before .before .before .before .before .before .before .loop in
+    let p = c .before .before .before .before .before .before .put-run2 .ensures in
+    let b = c .before .before .before .before .before .before .before .before .before .before .before .if1 .left in
+    let q = c .before .before .before .before .before .before .before .before .plain-end .ensures in
+    omega (arith, piece-in (l .inv) (search needs) b q)
 
 loop-less-4 : tie.Need-loop-less-4 Inv-loop μ-loop
-loop-less-4 c = search needs
+loop-less-4 c =
+    let l = c .before .before .before .before .before .before .before .before .before .before .before .before .before .before .loop in
+    let p = c .before .before .before .before .before .before .put-run2 .ensures in
+    let b = c .before .before .before .before .before .before .before .before .before .before .before .if1 .left in
+    let q = c .before .before .before .before .before .before .before .before .plain-end .ensures in
+    omega (arith, some-bytes (l .inv) (search needs) b q, piece-in (l .inv) (search needs) b q)
 
 loop-again-4 : tie.Need-loop-again-4 Inv-loop μ-loop
 loop-again-4 c =
-    let d = c .before .before .before .before in
-    plain-turn (d .before .before .before .loop .inv) (search needs) (d .if1 .left) (c .before .before .put-run2 .ensures .0) (c .before .before .put-run2 .ensures .1)
+    let l = c .before .before .before .before .before .before .before .before .before .before .before .before .before .before .loop in
+    let p = c .before .before .before .before .before .before .put-run2 .ensures in
+    let b = c .before .before .before .before .before .before .before .before .before .before .before .if1 .left in
+    let q = c .before .before .before .before .before .before .before .before .plain-end .ensures in
+    piece-turn (l .inv) (search needs) b q (p .0) (p .1) (c .before .before .move-piece .ensures)
 
 put-run-requires-3 : tie.Need-put-run-requires-3 Inv-loop μ-loop
 put-run-requires-3 c κs = flush-fits (c .before .before .loop .inv)
@@ -134,7 +166,7 @@ recode-to-spec =
     Inv-loop
     μ-loop
     loop-holds
-    slice-read-x
+    slice-read-if1
     add-i
     slice-read-c
     add-i-2
@@ -155,9 +187,14 @@ recode-to-spec =
     sub-n
     loop-less-3
     loop-again-3
+    sub-plain-end
+    part-plain-end-start
+    part-plain-end-end
+    plain-end-requires
     put-run-requires-2
-    slice-write-area
+    move-piece-requires
     add-o-2
+    add-i-3
     loop-less-4
     loop-again-4
     put-run-requires-3
