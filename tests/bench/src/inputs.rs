@@ -167,11 +167,69 @@ fn mixed_runs(length: usize) -> Vec<u8> {
     value
 }
 
-/// Distinct names that make the test of a second name slow: long, with a common start of 24 bytes.
-pub fn crafted_names(count: usize) -> Vec<Vec<u8>> {
+/// Distinct names of 31 bytes with a common start of 24 bytes.
+fn long_names(count: usize) -> Vec<Vec<u8>> {
     (0..count)
-        .map(|number| format!("{:-<24}{number:07}", "crafted").into_bytes())
+        .map(|number| format!("{:-<24}{number:07}", "prefix").into_bytes())
         .collect()
+}
+
+/// The low bits of the library's hash in which the crafted names agree.
+const SHARED: u64 = (1 << 18) - 1;
+
+/// What a byte adds to the library's hash of a name.
+fn mixed(byte: u8) -> u64 {
+    u64::from(byte) * 44_534_042_262_981_245
+}
+
+/// The library's hash of a name, one byte further.
+fn hashed(hash: u64, byte: u8) -> u64 {
+    ((hash & 0xFFFF_FFFF) * 4_294_957_665 + (hash >> 32)) ^ mixed(byte)
+}
+
+/// Names of 7 bytes whose hashes agree in the shared bits, so that they stand in one tree of the library's table.
+struct Search {
+    letters: Vec<u8>,
+    last: Vec<Option<u8>>,
+    names: Vec<Vec<u8>>,
+    count: usize,
+}
+
+impl Search {
+    fn extend(&mut self, start: &mut Vec<u8>, hash: u64) {
+        if self.names.len() == self.count {
+            return;
+        }
+        if start.len() < 6 {
+            for byte in self.letters.clone() {
+                start.push(byte);
+                self.extend(start, hashed(hash, byte));
+                start.pop();
+            }
+            return;
+        }
+        let next = hashed(hash, 0);
+        if let Some(byte) = self.last[(next & SHARED) as usize] {
+            self.names.push([&start[..], &[byte]].concat());
+        }
+    }
+}
+
+/// Distinct names that make the test of a second name slow: they agree in 18 bits of its hash.
+pub fn crafted_names(count: usize) -> Vec<Vec<u8>> {
+    let letters: Vec<u8> = (b'a'..=b'z').chain(b'0'..=b'9').collect();
+    let mut last = vec![None; SHARED as usize + 1];
+    for &byte in &letters {
+        last[(mixed(byte) & SHARED) as usize] = Some(byte);
+    }
+    let mut search = Search {
+        letters,
+        last,
+        names: Vec::new(),
+        count,
+    };
+    search.extend(&mut Vec::new(), 11_400_714_819_323_198_485);
+    search.names
 }
 
 /// The lines of a file, as names to use instead of the crafted ones.
@@ -185,7 +243,7 @@ fn names_of_file(path: &Path) -> Result<Vec<Vec<u8>>, String> {
 }
 
 /// An image of these names, as many as leave 1,024 bytes of the area free, all with the value `1`.
-fn of_names(names: &[Vec<u8>]) -> Input {
+fn of_names(what: &str, names: &[Vec<u8>]) -> Input {
     let room = 65_534 * format::BLOCK - 1024;
     let mut pairs = Vec::new();
     let mut count = 0;
@@ -197,7 +255,7 @@ fn of_names(names: &[Vec<u8>]) -> Input {
         pairs.extend_from_slice(&pair);
         count += 1;
     }
-    let title = format!("1 MiB, {} crafted names", crate::table::grouped(count));
+    let title = format!("1 MiB, {} {what}", crate::table::grouped(count));
     input(Kind::Many, &title, format::image(65_536, &pairs))
 }
 
@@ -206,13 +264,15 @@ pub fn all(folder: &Path, names: Option<&Path>) -> Result<Vec<Input>, String> {
     let mut inputs = stored(folder)?;
     let names = match names {
         Some(path) => names_of_file(path)?,
-        None => crafted_names(30_000),
+        None => crafted_names(104_000),
     };
     inputs.push(many("8 KiB, 25 variables", 512, 25, 290));
     inputs.push(many("64 KiB, 1,000 variables", 4096, 1000, 57));
     inputs.push(many("1 MiB, 10,000 variables", 65_536, 10_000, 95));
     inputs.push(many("1 MiB, 150,000 variables", 65_536, 150_000, 1));
-    inputs.push(of_names(&names));
+    inputs.push(of_names("names of 31 bytes", &long_names(30_000)));
+    inputs.push(of_names("crafted names", &names));
+    inputs.push(many("1 MiB, 104,000 variables", 65_536, 104_000, 2));
     inputs.push(one_block_partitions());
     inputs.push(one_value(
         "1,000,000 plain bytes in one value",
