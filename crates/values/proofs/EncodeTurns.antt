@@ -5,20 +5,22 @@ use mathlib.Core.Bool.{true, false}
 use mathlib.Core.List.{List, [], _∷_, _++_}
 use mathlib.Core.Logic.{_≢_}
 use native.Mathlib.Omega.{arith}
-use lib.ListN.{length, getD, set, drop, replicate, length-append, length-drop, length-replicate, drop-of-length-le}
+use lib.ListN.{length, getD, set, take, drop, replicate, length-append, length-drop, length-replicate, drop-of-length-le}
 use lib.Dec.{eqb}
 use lib.Seq.{drop-drop}
 use borrow.Author.Tests.{eqb-true, eqb-false, eq-eqb, ne-eqb}
 use Rattle.lists.specs.Pasted.{pasted}
 use Rattle.lists.proofs.Tests.{split}
+use Rattle.lists.specs.Find.{untilEither}
+use Rattle.lists.proofs.FindLaws.{either-further, either-piece, either-plain, plain-length}
 use Rattle.lists.proofs.PastedLaws.{set-pasted, set-after}
 use Rattle.lists.proofs.Grown.{Grown, grown-none, grown-as, grown-same, grown-piece, grown-byte, grown-all, grown-end}
-use Rattle.values.specs.Value.{mark, fullEscapes, restEscape, runBytes, escaped, leading, encode}
+use Rattle.values.specs.Value.{mark, fullEscapes, restEscape, runBytes, escaped, leading, encode, part}
 use Rattle.values.specs.Rules.{Begins}
 use Rattle.lists.proofs.ListLaws.{drop-next}
 use Rattle.lists.proofs.Grown.{grown-left}
-use Rattle.values.proofs.EncodeLaws.{rest-none, rest-some, length-run-bytes, length-encode}
-use Rattle.values.proofs.CanonicalLaws.{encode-longest, encode-itself, encode-empty}
+use Rattle.values.proofs.EncodeLaws.{escaped-zero, escaped-ff, rest-none, rest-some, length-run-bytes, length-encode}
+use Rattle.values.proofs.CanonicalLaws.{encode-longest, encode-itself, encode-piece, encode-empty}
 
 -- ---- the bytes at the start that are b
 
@@ -96,6 +98,19 @@ encode-end v i h = ap encode (drop-of-length-le v h) ∙ encode-empty
 
 -- ---- the loop that counts
 
+-- a piece without 0x00 and 0xFF
+module _ (v : List ℕ) (i : ℕ) {e : ℕ} (q : e ≡ i + untilEither 0 255 (drop i v)) where
+  encode-part-at : encode (drop i v) ≡ part v i e ++ encode (drop e v)
+  unfolding part
+  encode-part-at = ap encode (either-piece v i 0 255 q) ∙ encode-piece (take (e - i) (drop i v)) (drop e v) (either-plain v i 0 255 q)
+
+  length-part-at : i ≤ length v → length (part v i e) ≡ e - i
+  unfolding part
+  length-part-at h = plain-length v i 0 255 (omega arith) (omega arith) h
+
+  pub piece-ahead : i < length v → escaped (getD v i 0) ≡ false → i < e
+  piece-ahead h t = either-further v i 0 255 q h (escaped-zero (getD v i 0) t) (escaped-ff (getD v i 0) t)
+
 pub record Counted (v : List ℕ) (i n : ℕ) : Type 0 where
   pub sum : n + length (encode (drop i v)) ≡ length (encode v)
 
@@ -108,6 +123,9 @@ module _ {v : List ℕ} {i n : ℕ} (s : Counted v i n) where
 
   pub counted-plain : i < length v → escaped (getD v i 0) ≡ false → Counted v (i + 1) (n + 1)
   counted-plain h t = record { sum = omega (arith, s .sum, ap length (encode-plain-at v i h t)) }
+
+  pub counted-piece : i ≤ length v → {e : ℕ} → e ≡ i + untilEither 0 255 (drop i v) → Counted v e (n + (e - i))
+  counted-piece h {e} q = record { sum = omega (arith, s .sum, ap length (encode-part-at v i q), length-append (part v i e) (encode (drop e v)), length-part-at v i q h) }
 
   pub counted-run : i < length v → escaped (getD v i 0) ≡ true → {e k : ℕ} → e ≡ i + leading (getD v i 0) (drop i v) → k ≡ length (runBytes 0 (e - i))
       → Counted v e (n + k)
@@ -150,6 +168,19 @@ module _ {v d : List ℕ} {i o : ℕ} {b : List ℕ} (s : Encoding v d i o b) wh
     grown = grown-byte (s .grown) (getD v i 0) (encode (drop (i + 1) v)) (encode-plain-at v i h t) (omega (arith, byte-room h t, encoding-same));
     fits = s .fits;
   }
+
+  module _ (h : i ≤ length v) {e : ℕ} (q : e ≡ i + untilEither 0 255 (drop i v)) where
+    pub piece-room : o + (e - i) ≤ length b
+    piece-room =
+        omega (arith, encoding-same, left-fits, ap length (encode-part-at v i q), length-append (part v i e) (encode (drop e v)), length-part-at v i q h)
+
+    pub piece-turn : {b′ : List ℕ} → b′ ≡ pasted b o (part v i e) → Encoding v d e (o + (e - i)) b′
+    piece-turn u = record {
+      grown =
+          grown-piece (s .grown) (part v i e) (encode (drop e v)) (encode-part-at v i q)
+          (omega (arith, piece-room, encoding-same, length-part-at v i q h)) (omega (arith, length-part-at v i q h)) u;
+      fits = s .fits;
+    }
 
   module _ (h : i < length v) (t : escaped (getD v i 0) ≡ true) {e : ℕ} (q : e ≡ i + leading (getD v i 0) (drop i v)) where
     pub run-fits : o + length (runBytes (getD v i 0) (e - i)) ≤ length b

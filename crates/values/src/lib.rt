@@ -306,15 +306,21 @@ pub fn encoded_len(value: &[u8]) -> usize
 {
     let mut i = 0;
     let mut n: usize = 0;
+    let mut stop = first_stop(value.len());
     while i < value.len() {
         let x = value[i];
         if is_escaped(x) {
             let e = run_end(value, i, x);
             n += run_len(e - i);
             i = e;
-        } else {
+        } else if i < stop {
             n += 1;
             i += 1;
+        } else {
+            let e = lists::find_either(value, i, 0, 255);
+            n += e - i;
+            i = e;
+            stop = next_stop(e, value.len());
         }
     }
     n
@@ -327,16 +333,23 @@ fn encode_to(value: &[u8], buffer: &mut [u8])
 {
     let mut i = 0;
     let mut o: usize = 0;
+    let mut stop = first_stop(value.len());
     while i < value.len() {
         let x = value[i];
         if is_escaped(x) {
             let e = run_end(value, i, x);
             o = put_run(buffer, o, x, e - i);
             i = e;
-        } else {
+        } else if i < stop {
             buffer[o] = x;
             o += 1;
             i += 1;
+        } else {
+            let e = lists::find_either(value, i, 0, 255);
+            copy_part(value, i, e, buffer, o);
+            o += e - i;
+            i = e;
+            stop = next_stop(e, value.len());
         }
     }
 }

@@ -3,16 +3,20 @@ use Prim.Native.Nat.{_-_}
 use mathlib.Core.Path.{sym, _∙_}
 use native.Mathlib.Omega.{arith}
 use lib.ListN.{length}
-use Rattle.values.proofs.EncodeTurns.{run-ahead, run-inside, Encoding, encoding-none, encoding-same, byte-room, byte-turn, run-fits, run-turn, encoding-all}
+use Rattle.lists.proofs.FindLaws.{either-ahead, either-inside}
+use Rattle.values.proofs.EncodeTurns.{run-ahead, run-inside, Encoding, encoding-none, encoding-same, byte-room, byte-turn, piece-ahead, piece-room, piece-turn, run-fits, run-turn, encoding-all}
 use borrow.Author.Needs.{needs}
 use Rattle.values.proofs.encode_to.Statement.{statement}
 use Rattle.values.proofs.encode_to.Tie as tie
 
 abbrev Inv-loop : tie.InvT-loop
-Inv-loop value buffer₀ i₀ o₀ buffer i o = Encoding value buffer₀ i o buffer
+Inv-loop value buffer₀ i₀ o₀ stop₀ buffer i o stop = Encoding value buffer₀ i o buffer
 
 abbrev μ-loop : tie.MeasureT-loop
-μ-loop value buffer₀ i₀ o₀ buffer i o = length value - i
+μ-loop value buffer₀ i₀ o₀ stop₀ buffer i o stop = length value - i
+
+first-stop-requires : tie.Need-first-stop-requires Inv-loop μ-loop
+first-stop-requires c κs = search needs
 
 loop-holds : tie.Need-loop-holds Inv-loop μ-loop
 loop-holds c = encoding-none _ _ (search needs)
@@ -28,7 +32,7 @@ run-end-requires c κs = search needs
 
 sub-put-run : tie.Need-sub-put-run Inv-loop μ-loop
 sub-put-run c =
-    let a = c .before .before .before .before .before .before .before .before .before .args in
+    let a = c .before .before .before .before .before .before .before .before .before .before .args in
     omega (arith, run-ahead (a .value .now) (c .before .before .before .before .before .before .loop .i) (search needs) _ (c .before .run-end .ensures))
 
 put-run-requires : tie.Need-put-run-requires Inv-loop μ-loop
@@ -39,7 +43,7 @@ put-run-requires c κs =
 loop-less : tie.Need-loop-less Inv-loop μ-loop
 loop-less c =
     let l = c .before .before .before .before .before .before .before .before .before in
-    let v = l .before .before .before .args .value .now in
+    let v = l .before .before .before .before .args .value .now in
     let e = c .before .before .before .before .run-end in
     omega (arith, run-ahead v (l .loop .i) (search needs) (e .result) (e .ensures), run-inside v (l .loop .i) (search needs) (e .result) (e .ensures))
 
@@ -50,10 +54,10 @@ loop-again c =
     (c .before .before .before .before .run-end .ensures) (c .before .before .put-run .ensures .0) (c .before .before .put-run .ensures .1)
 
 slice-write-buffer : tie.Need-slice-write-buffer Inv-loop μ-loop
-slice-write-buffer c = byte-room (c .before .before .before .before .loop .inv) (search needs) (sym (c .before .is-escaped .ensures) ∙ c .if1 .left)
+slice-write-buffer c = byte-room (c .before .before .before .before .before .loop .inv) (search needs) (sym (c .before .before .is-escaped .ensures) ∙ c .before .if1 .left)
 
 add-o : tie.Need-add-o Inv-loop μ-loop
-add-o c = omega (arith, byte-room (c .before .before .before .before .loop .inv) (search needs) (sym (c .before .is-escaped .ensures) ∙ c .if1 .left))
+add-o c = omega (arith, byte-room (c .before .before .before .before .before .loop .inv) (search needs) (sym (c .before .before .is-escaped .ensures) ∙ c .before .if1 .left))
 
 add-i : tie.Need-add-i Inv-loop μ-loop
 add-i c = search needs
@@ -62,7 +66,46 @@ loop-less-2 : tie.Need-loop-less-2 Inv-loop μ-loop
 loop-less-2 c = search needs
 
 loop-again-2 : tie.Need-loop-again-2 Inv-loop μ-loop
-loop-again-2 c = byte-turn (c .before .before .before .before .loop .inv) (search needs) (sym (c .before .is-escaped .ensures) ∙ c .if1 .left)
+loop-again-2 c = byte-turn (c .before .before .before .before .before .loop .inv) (search needs) (sym (c .before .before .is-escaped .ensures) ∙ c .before .if1 .left)
+
+find-either-requires : tie.Need-find-either-requires Inv-loop μ-loop
+find-either-requires c κs = search needs
+
+copy-part-requires : tie.Need-copy-part-requires Inv-loop μ-loop
+copy-part-requires c κs =
+    let l = c .before .before .before .before .before .before .before in
+    let q = c .before .find-either .ensures in
+    (either-ahead (l .before .before .before .before .args .value .now) (l .loop .i) 0 255 q, either-inside (l .before .before .before .before .args .value .now) (l .loop .i) 0 255 q (search needs), piece-room (l .loop .inv) (search needs) q)
+
+sub-o : tie.Need-sub-o Inv-loop μ-loop
+sub-o c =
+    let l = c .before .before .before .before .before .before .before .before .before .before in
+    let q = c .before .before .before .before .find-either .ensures in
+    omega (arith, either-ahead (l .before .before .before .before .args .value .now) (l .loop .i) 0 255 q)
+
+add-o-2 : tie.Need-add-o-2 Inv-loop μ-loop
+add-o-2 c =
+    let l = c .before .before .before .before .before .before .before .before .before .before in
+    let q = c .before .before .before .before .find-either .ensures in
+    omega (arith, piece-room (l .loop .inv) (search needs) q, encoding-same (l .loop .inv))
+
+next-stop-requires : tie.Need-next-stop-requires Inv-loop μ-loop
+next-stop-requires c κs =
+    let l = c .before .before .before .before .before .before .before .before .before .before in
+    let q = c .before .before .before .before .find-either .ensures in
+    either-inside (l .before .before .before .before .args .value .now) (l .loop .i) 0 255 q (search needs)
+
+loop-less-3 : tie.Need-loop-less-3 Inv-loop μ-loop
+loop-less-3 c =
+    let l = c .before .before .before .before .before .before .before .before .before .before .before in
+    let q = c .before .before .before .before .before .find-either .ensures in
+    omega (arith, piece-ahead (l .before .before .before .before .args .value .now) (l .loop .i) q (search needs) (sym (c .before .before .before .before .before .before .before .before .is-escaped .ensures) ∙ c .before .before .before .before .before .before .before .if1 .left))
+
+loop-again-3 : tie.Need-loop-again-3 Inv-loop μ-loop
+loop-again-3 c =
+    let l = c .before .before .before .before .before .before .before .before .before .before .before in
+    let q = c .before .before .before .before .before .find-either .ensures in
+    piece-turn (l .loop .inv) (search needs) q (c .before .before .before .copy-part .ensures)
 
 same-length : tie.Need-same-length Inv-loop μ-loop
 same-length c = encoding-same (c .before .loop .inv)
@@ -76,6 +119,7 @@ encode-to-spec =
     (tie.spec
     Inv-loop
     μ-loop
+    first-stop-requires
     loop-holds
     shared-slice-read-x
     is-escaped-requires
@@ -89,5 +133,12 @@ encode-to-spec =
     add-i
     loop-less-2
     loop-again-2
+    find-either-requires
+    copy-part-requires
+    sub-o
+    add-o-2
+    next-stop-requires
+    loop-less-3
+    loop-again-3
     same-length
     returns)
