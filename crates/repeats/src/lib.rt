@@ -239,13 +239,13 @@ fn turn_small(pairs: &[u8], from: usize, best: usize) -> Turned
     turn(pairs, &mut links, &mut starts, from, best)
 }
 
-// One block, with a table of 4,096 entries.
+// One block, with a table of 4,500 entries.
 fn turn_large(pairs: &[u8], from: usize, best: usize) -> Turned
     requires { ⌜ Distinct (now pairs) from best × Best (now pairs) best × (from < best) × Start (now pairs) from ⌝ }
     ensures { λ r. ⌜ Turn (now (pairs .entry)) from best (r .mid) (r .best) ⌝ }
 {
-    let mut links = [0u16; 12288];
-    let mut starts = [0usize; 4096];
+    let mut links = [0u16; 13500];
+    let mut starts = [0usize; 4500];
     turn(pairs, &mut links, &mut starts, from, best)
 }
 
