@@ -5,13 +5,14 @@ use mathlib.Core.Bool.{true, false}
 use mathlib.Core.List.{List}
 use native.Mathlib.Omega.{arith}
 use lib.Dec.{ltb}
-use lib.ListN.{length, getD, set, replicate}
+use lib.ListN.{length, getD, set, replicate, length-replicate}
 use lib.Seq.{getD-set-same, getD-set-other}
 use borrow.Author.Tests.{ltb-true, ltb-false}
 use Rattle.lists.proofs.Tests.{split}
 use Rattle.repeats.specs.Pieces.{nameAt, starts}
 use Rattle.repeats.specs.Places.{Start, Next, Distinct, Best}
-use Rattle.repeats.specs.Table.{Table, Hit, Walked, Entry, Holds, Block, Turn, Gathered}
+use Rattle.repeats.specs.Table.{placed, Table, Hit, Walked, Entry, Holds, Block, Turn, Gathered}
+use Rattle.repeats.proofs.PlacedLaws.{placed-length}
 use Rattle.repeats.proofs.TableLaws.{split-eq, inserted, new-table}
 
 -- a block
@@ -86,7 +87,7 @@ module _ {l links starts : List ℕ} {k from at best : ℕ} (s : Block l links s
   pub block-more : (links' starts' : List ℕ) (link r : ℕ) → Distinct l from best → at < best → k < length starts → Walked l links starts k at link false → links' ≡ set links link (k + 1) → starts' ≡ set starts k at → Next l at r → r ≤ best
       → Block l links' starts' (k + 1) from r best
   block-more links' starts' link r d h room look e g n f = record {
-    table = rw (e, g) (inserted at (s .table) room (look .free refl));
+    table = rw (e, g) (inserted at (s .table) room (s .begins h .inside) (look .free refl));
     holds = rw g (holds-more room (s .holds) (s .from-low) (s .begins h) n);
     from-low = omega (arith, s .from-low, n .falls);
     at-high = f;
@@ -161,5 +162,11 @@ turn-hit {l} {links} {starts} {k} {from} {at} {best} f = record {
 
 -- a block in a new table of n entries
 pub new-block : (l : List ℕ) (from best m n : ℕ) → m ≡ 3 * n → 0 < n → n < 65536 → Distinct l from best × Best l best × (from < best) × Start l from
-    → Block l (replicate m 0) (replicate n 0) 0 from from best × Distinct l from best × Best l best × (from < best)
-new-block l from best m n e p q s = (empty-block (new-table l m n e p q) (s .0) (s .2) (s .1 .inside) (s .3), s .0, s .1, s .2)
+    → Block l (replicate m 0) (placed from (replicate n 0)) 0 from from best × Distinct l from best × Best l best × (from < best)
+new-block l from best m n e p q s =
+    let o : length (placed from (replicate n 0)) ≡ n = placed-length from (replicate n 0) ∙ length-replicate {A = ℕ} n 0 in (
+      empty-block (new-table l m (placed from (replicate n 0)) (omega arith) (omega arith) (omega arith)) (s .0) (s .2) (s .1 .inside) (s .3),
+      s .0,
+      s .1,
+      s .2,
+    )

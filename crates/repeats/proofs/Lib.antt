@@ -1,5 +1,6 @@
 pub mod NameLaws
 pub mod StartLaws
+pub mod PlacedLaws
 pub mod TableLaws
 pub mod BlockLaws
 pub mod FirstLaws

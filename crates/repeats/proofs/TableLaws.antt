@@ -52,12 +52,12 @@ pub record Walk (l links starts : List ℕ) (k at h link way : ℕ) : Type 0 whe
   pub back : (s : ℕ) → Comes links (length starts) s link way → Comes links (length starts) s (rootOf (length starts) h) (wayOf h)
 
 module _ {l links starts : List ℕ} {k : ℕ} (t : Table l links starts k) where
-  pub walk-none : (at h : ℕ) → h ≡ hashOf (nameAt l at) → Walk l links starts k at h (rootOf (length starts) h) (wayOf h)
-  walk-none at h e = record {
+  pub walk-none : (at h n : ℕ) → n ≡ length starts → h ≡ hashOf (nameAt l at) → Walk l links starts k at h (rootOf n h) (wayOf h)
+  walk-none at h n q e = subst (λ (m : ℕ). Walk l links starts k at h (rootOf m h) (wayOf h)) (sym q) (record {
     low = omega (arith, root-low (length starts) h (t .some));
     ahead = λ i b q. subst (λ (x : ℕ). Found links (length starts) (rootOf (length starts) x) (wayOf x) i) (ap hashOf q ∙ sym e) (t .cover i b);
     back = λ s c. c;
-  }
+  })
 
   module _ {at h link way : ℕ} (w : Walk l links starts k at h link way) where
     pub walk-end : h ≡ hashOf (nameAt l at) → getD links link 0 ≡ 0 → Walked l links starts k at link false
@@ -74,12 +74,12 @@ module _ {l links starts : List ℕ} {k : ℕ} (t : Table l links starts k) wher
       free = λ e. let z : _≡_ {A = ℕ} 0 1 = cc in absurd (omega arith);
     }
 
-    pub walk-next : {i : ℕ} → getD links link 0 ≡ suc i → (nameAt l (getD starts i 0) ≡ nameAt l at → ⊥) → Walk l links starts k at h (length starts + 2 * i + way % 2) (way / 2)
-    walk-next {i} v d = record {
+    pub walk-next : {i : ℕ} (n : ℕ) → n ≡ length starts → getD links link 0 ≡ suc i → (nameAt l (getD starts i 0) ≡ nameAt l at → ⊥) → Walk l links starts k at h (n + 2 * i + way % 2) (way / 2)
+    walk-next {i} n q v d = subst (λ (m : ℕ). Walk l links starts k at h (m + 2 * i + way % 2) (way / 2)) (sym q) (record {
       low = omega (arith, t .below link i v);
       ahead = λ j b q. found-past (w .ahead j b q) v (λ s. d (ap (λ (m : ℕ). nameAt l (getD starts m 0)) (sym s) ∙ q));
       back = λ s c. w .back s (there v c);
-    }
+    })
 
 -- a store at an empty link leaves the walks
 other : (links : List ℕ) (e a v : ℕ) {j : ℕ} → getD links e 0 ≡ 0 → getD links a 0 ≡ suc j → getD (set links e v) a 0 ≡ suc j
@@ -93,7 +93,7 @@ found-set : {links : List ℕ} {n at way i : ℕ} (e v : ℕ) → getD links e 0
 found-set {links} e v z f = record { link = f .link; comes = comes-set e v z (f .comes); is = other links e (f .link) v z (f .is) }
 
 -- an entry more
-module _ {l links starts : List ℕ} {k link : ℕ} (at : ℕ) (t : Table l links starts k) (r : k < length starts) (f : Free links (length starts) k (hashOf (nameAt l at)) link) where
+module _ {l links starts : List ℕ} {k link : ℕ} (at : ℕ) (t : Table l links starts k) (r : k < length starts) (o : at < length l) (f : Free links (length starts) k (hashOf (nameAt l at)) link) where
   pub link-in : link < length links
   link-in = omega (arith, f .low, t .long)
 
@@ -115,6 +115,9 @@ module _ {l links starts : List ℕ} {k link : ℕ} (at : ℕ) (t : Table l link
     small = omega (arith, length-set starts k at, t .small);
     long = omega (arith, length-set starts k at, length-set links link (k + 1), t .long);
     room = omega (arith, length-set starts k at);
+    inside = λ i h. split-eq i k
+        (λ q. omega (arith, new-start i q))
+        (λ q. omega (arith, getD-set-other starts k i at 0 q, t .inside i (omega arith)));
     below = λ a j q. split-eq a link
         (λ e. omega (arith, new-link a e))
         (λ e. omega (arith, t .below a j (sym (getD-set-other links link a (k + 1) 0 e) ∙ q)));
@@ -129,12 +132,13 @@ getD-zeros zero b = refl
 getD-zeros (suc n) zero = refl
 getD-zeros (suc n) (suc b) = getD-zeros n b
 
-pub new-table : (l : List ℕ) (m n : ℕ) → m ≡ 3 * n → 0 < n → n < 65536 → Table l (replicate m 0) (replicate n 0) 0
-new-table l m n e p q = record {
-  some = omega (arith, length-replicate {A = ℕ} n 0);
-  small = omega (arith, length-replicate {A = ℕ} n 0);
-  long = omega (arith, length-replicate {A = ℕ} n 0, length-replicate {A = ℕ} m 0);
+pub new-table : (l : List ℕ) (m : ℕ) (starts : List ℕ) → m ≡ 3 * length starts → 0 < length starts → length starts < 65536 → Table l (replicate m 0) starts 0
+new-table l m starts e p q = record {
+  some = p;
+  small = q;
+  long = omega (arith, length-replicate {A = ℕ} m 0);
   room = omega arith;
+  inside = λ i h. absurd (omega arith);
   below = λ a j v. absurd (omega (arith, getD-zeros m a));
   onward = λ a j v. absurd (omega (arith, getD-zeros m a));
   cover = λ i h. absurd (omega arith);

@@ -21,6 +21,11 @@ hashFrom h (b ∷ bs) = hashFrom (mixed h b) bs
 unfoldable pub hashOf : List ℕ → ℕ
 hashOf name = hashFrom 11400714819323198485 name
 
+-- starts that are held as distances from `from`
+unfoldable pub placed : ℕ → List ℕ → List ℕ
+placed from [] = []
+placed from (d ∷ ds) = (from + d) ∷ placed from ds
+
 -- the tree of a hash, of n trees
 unfoldable pub rootOf : ℕ → ℕ → ℕ
 rootOf n h = h % 65536 * n / 65536
@@ -46,6 +51,7 @@ pub record Table (l links starts : List ℕ) (k : ℕ) : Type 0 where
   pub small : length starts < 65536
   pub long : length links ≡ 3 * length starts
   pub room : k ≤ length starts
+  pub inside : (i : ℕ) → i < k → getD starts i 0 < length l
   pub below : (at j : ℕ) → getD links at 0 ≡ suc j → j < k
   pub onward : (at j : ℕ) → getD links at 0 ≡ suc j → at < length starts + 2 * j
   pub cover : (i : ℕ) → i < k → Found links (length starts) (rootOf (length starts) (hashOf (nameAt l (getD starts i 0)))) (wayOf (hashOf (nameAt l (getD starts i 0)))) i

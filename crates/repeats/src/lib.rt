@@ -6,7 +6,7 @@ ghost use lib.ListN.{length, set};
 ghost use Rattle.lists.specs.Bytes.{sameBytes};
 ghost use Rattle.repeats.specs.Pieces.{nameAt, firstRepeat};
 ghost use Rattle.repeats.specs.Places.{Start, NameByte, Next, Distinct, Best};
-ghost use Rattle.repeats.specs.Table.{hashOf, Table, Walked, Block, Gathered, Turn};
+ghost use Rattle.repeats.specs.Table.{hashOf, placed, Table, Walked, Block, Gathered, Turn};
 
 // The first piece whose name stood before, if there is one.
 pub enum Repeat {
@@ -32,6 +32,13 @@ struct Stop {
 struct Turned {
     mid: usize,
     best: usize,
+}
+
+// A distance in a block as an offset.
+fn distance(x: u32) -> usize
+    ensures { λ r. ⌜ r ≡ x ⌝ }
+{
+    x as usize
 }
 
 // A link of the table as an index.
@@ -112,9 +119,17 @@ fn same_name(pairs: &[u8], p: usize, q: usize) -> bool
 }
 
 // Walks by the hash h to the name at `at`: from the link of its tree on, at each entry with another name to the child that the next bit chooses.
-fn walk(pairs: &[u8], links: &[u16], starts: &[usize], count: usize, at: usize, h: usize) -> Place
-    requires { ⌜ Table (now pairs) (now links) (now starts) count × (h ≡ hashOf (nameAt (now pairs) at)) ⌝ }
-    ensures { λ r. ⌜ Walked (now (pairs .entry)) (now (links .entry)) (now (starts .entry)) count at (r .link) (r .hit) ⌝ }
+fn walk(
+    pairs: &[u8],
+    links: &[u16],
+    starts: &[u32],
+    count: usize,
+    from: usize,
+    at: usize,
+    h: usize,
+) -> Place
+    requires { ⌜ Table (now pairs) (now links) (placed from (now starts)) count × (h ≡ hashOf (nameAt (now pairs) at)) ⌝ }
+    ensures { λ r. ⌜ Walked (now (pairs .entry)) (now (links .entry)) (placed from (now (starts .entry))) count at (r .link) (r .hit) ⌝ }
 {
     let mut link = h % 65536 * starts.len() / 65536;
     let mut way = h / 65536;
@@ -124,7 +139,7 @@ fn walk(pairs: &[u8], links: &[u16], starts: &[usize], count: usize, at: usize, 
             break false;
         }
         let i = next - 1;
-        let p = starts[i];
+        let p = from + distance(starts[i]);
         if same_name(pairs, p, at) {
             break true;
         }
@@ -137,19 +152,19 @@ fn walk(pairs: &[u8], links: &[u16], starts: &[usize], count: usize, at: usize, 
     }
 }
 
-// Puts the piece at `at` into the table, at the empty link where the walk to its name ends.
-fn insert(links: &mut [u16], starts: &mut [usize], count: usize, link: usize, at: usize)
-    requires { ⌜ (count < length (now starts)) × (length (now starts) < 65536) × (link < length (now links)) ⌝ }
-    ensures { λ _. ⌜ (now (links .exit) ≡ set (now (links .entry)) link (count + 1)) × (now (starts .exit) ≡ set (now (starts .entry)) count at) ⌝ }
+// Puts the piece at a distance into the table, at the empty link where the walk to its name ends.
+fn insert(links: &mut [u16], starts: &mut [u32], count: usize, link: usize, far: usize)
+    requires { ⌜ (count < length (now starts)) × (length (now starts) < 65536) × (link < length (now links)) × (far < 4294967296) ⌝ }
+    ensures { λ _. ⌜ (now (links .exit) ≡ set (now (links .entry)) link (count + 1)) × (now (starts .exit) ≡ set (now (starts .entry)) count far) ⌝ }
 {
-    starts[count] = at;
+    starts[count] = far as u32;
     links[link] = (count + 1) as u16;
 }
 
-// Gathers a block of the pieces from `from` on, until it is full, or at `best`, or where a name stands in it.
-fn gather(pairs: &[u8], links: &mut [u16], starts: &mut [usize], from: usize, best: usize) -> Stop
-    requires { ⌜ Block (now pairs) (now links) (now starts) 0 from from best × Distinct (now pairs) from best × Best (now pairs) best × (from < best) ⌝ }
-    ensures { λ r. ⌜ Gathered (now (pairs .entry)) (now (links .exit)) (now (starts .exit)) (r .count) from (r .at) best (r .hit) ⌝ }
+// Gathers a block of the pieces from `from` on, until it is full or too long, or at `best`, or where a name stands in it.
+fn gather(pairs: &[u8], links: &mut [u16], starts: &mut [u32], from: usize, best: usize) -> Stop
+    requires { ⌜ Block (now pairs) (now links) (placed from (now starts)) 0 from from best × Distinct (now pairs) from best × Best (now pairs) best × (from < best) ⌝ }
+    ensures { λ r. ⌜ Gathered (now (pairs .entry)) (now (links .exit)) (placed from (now (starts .exit))) (r .count) from (r .at) best (r .hit) ⌝ }
 {
     let mut at = from;
     let mut count = 0;
@@ -160,12 +175,16 @@ fn gather(pairs: &[u8], links: &mut [u16], starts: &mut [usize], from: usize, be
         if starts.len() <= count {
             break false;
         }
+        let far = at - from;
+        if 4294967295 < far {
+            break false;
+        }
         let h = name_hash(pairs, at);
-        let w = walk(pairs, links, starts, count, at, h);
+        let w = walk(pairs, links, starts, count, from, at, h);
         if w.hit {
             break true;
         }
-        insert(links, starts, count, w.link, at);
+        insert(links, starts, count, w.link, far);
         count += 1;
         at = next_start(pairs, at);
     };
@@ -180,19 +199,19 @@ fn gather(pairs: &[u8], links: &mut [u16], starts: &mut [usize], from: usize, be
 fn look_ahead(
     pairs: &[u8],
     links: &[u16],
-    starts: &[usize],
+    starts: &[u32],
     count: usize,
     from: usize,
     mid: usize,
     best: usize,
 ) -> usize
-    requires { ⌜ Block (now pairs) (now links) (now starts) count from mid best × Distinct (now pairs) from best × Best (now pairs) best × (from < mid) ⌝ }
+    requires { ⌜ Block (now pairs) (now links) (placed from (now starts)) count from mid best × Distinct (now pairs) from best × Best (now pairs) best × (from < mid) ⌝ }
     ensures { λ r. ⌜ Turn (now (pairs .entry)) from best mid r ⌝ }
 {
     let mut at = mid;
     while at < best {
         let h = name_hash(pairs, at);
-        let w = walk(pairs, links, starts, count, at, h);
+        let w = walk(pairs, links, starts, count, from, at, h);
         if w.hit {
             return at;
         }
@@ -202,8 +221,8 @@ fn look_ahead(
 }
 
 // One block, in a table that is empty: its pieces are told apart, and the later ones up to `best` from them.
-fn turn(pairs: &[u8], links: &mut [u16], starts: &mut [usize], from: usize, best: usize) -> Turned
-    requires { ⌜ Block (now pairs) (now links) (now starts) 0 from from best × Distinct (now pairs) from best × Best (now pairs) best × (from < best) ⌝ }
+fn turn(pairs: &[u8], links: &mut [u16], starts: &mut [u32], from: usize, best: usize) -> Turned
+    requires { ⌜ Block (now pairs) (now links) (placed from (now starts)) 0 from from best × Distinct (now pairs) from best × Best (now pairs) best × (from < best) ⌝ }
     ensures { λ r. ⌜ Turn (now (pairs .entry)) from best (r .mid) (r .best) ⌝ }
 {
     let f = gather(pairs, links, starts, from, best);
@@ -225,27 +244,27 @@ fn turn_tiny(pairs: &[u8], from: usize, best: usize) -> Turned
     ensures { λ r. ⌜ Turn (now (pairs .entry)) from best (r .mid) (r .best) ⌝ }
 {
     let mut links = [0u16; 192];
-    let mut starts = [0usize; 64];
+    let mut starts = [0u32; 64];
     turn(pairs, &mut links, &mut starts, from, best)
 }
 
-// One block, with a table of 1,024 entries.
+// One block, with a table of 1,440 entries.
 fn turn_small(pairs: &[u8], from: usize, best: usize) -> Turned
     requires { ⌜ Distinct (now pairs) from best × Best (now pairs) best × (from < best) × Start (now pairs) from ⌝ }
     ensures { λ r. ⌜ Turn (now (pairs .entry)) from best (r .mid) (r .best) ⌝ }
 {
-    let mut links = [0u16; 3072];
-    let mut starts = [0usize; 1024];
+    let mut links = [0u16; 4320];
+    let mut starts = [0u32; 1440];
     turn(pairs, &mut links, &mut starts, from, best)
 }
 
-// One block, with a table of 4,500 entries.
+// One block, with a table of 6,300 entries.
 fn turn_large(pairs: &[u8], from: usize, best: usize) -> Turned
     requires { ⌜ Distinct (now pairs) from best × Best (now pairs) best × (from < best) × Start (now pairs) from ⌝ }
     ensures { λ r. ⌜ Turn (now (pairs .entry)) from best (r .mid) (r .best) ⌝ }
 {
-    let mut links = [0u16; 13500];
-    let mut starts = [0usize; 4500];
+    let mut links = [0u16; 18900];
+    let mut starts = [0u32; 6300];
     turn(pairs, &mut links, &mut starts, from, best)
 }
 

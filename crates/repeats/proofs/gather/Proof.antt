@@ -6,42 +6,74 @@ use lib.ListN.{length, length-set}
 use borrow.Author.Needs.{needs}
 use Rattle.repeats.specs.Pieces.{starts}
 use Rattle.repeats.specs.Places.{Distinct, Best}
-use Rattle.repeats.specs.Table.{Walked, Block}
+use Rattle.repeats.specs.Table.{placed, Walked, Block}
 use Rattle.repeats.proofs.StartLaws.{next-low, best-start}
+use Rattle.repeats.proofs.PlacedLaws.{placed-length, placed-more}
 use Rattle.repeats.proofs.TableLaws.{link-in}
 use Rattle.repeats.proofs.BlockLaws.{block-more, block-hit, block-done, block-full}
 use Rattle.repeats.proofs.gather.Statement.{statement}
 use Rattle.repeats.proofs.gather.Tie as tie
 
 abbrev Inv-loop : tie.InvT-loop
-Inv-loop pairs links₀ starts₀ from best at₀ count₀ links starts at count = Block pairs links starts count from at best × Distinct pairs from best × Best pairs best × (from < best) × (length links ≡ length links₀) × (length starts ≡ length starts₀)
+Inv-loop pairs links₀ starts₀ from best at₀ count₀ links starts at count = Block pairs links (placed from starts) count from at best × Distinct pairs from best × Best pairs best × (from < best) × (length links ≡ length links₀) × (length starts ≡ length starts₀)
 
 abbrev μ-loop : tie.MeasureT-loop
 μ-loop pairs links₀ starts₀ from best at₀ count₀ links starts at count = best - at
 
+-- the table has as many starts as are lent
+long : (s : tie.At-loop Inv-loop μ-loop) → length (placed (s .before .before .before .before .args .from) (s .loop .starts)) ≡ length (s .loop .starts)
+long s = placed-length (s .before .before .before .before .args .from) (s .loop .starts)
+
 loop-holds : tie.Need-loop-holds Inv-loop μ-loop
 loop-holds c = let s = c .before .before .before .pre in (s .0, s .1, s .2, s .3, refl, refl)
+
+sub-far : tie.Need-sub-far Inv-loop μ-loop
+sub-far c = c .before .before .loop .inv .0 .from-low
 
 name-hash-requires : tie.Need-name-hash-requires Inv-loop μ-loop
 name-hash-requires c κs = search needs
 
 walk-requires : tie.Need-walk-requires Inv-loop μ-loop
-walk-requires c κs = (c .before .before .before .before .before .loop .inv .0 .table, c .before .before .name-hash .ensures)
+walk-requires c κs = (c .before .before .before .before .before .before .loop .inv .0 .table, c .before .before .name-hash .ensures)
 
 insert-requires : tie.Need-insert-requires Inv-loop μ-loop
-insert-requires c κs = let t = c .before .before .before .before .before .before .before .before .before .loop .inv .0 .table in let w = subst (Walked _ _ _ _ _ _) (c .before .before .if3 .left) (c .before .before .before .walk .ensures) in (c .before .before .before .before .before .before .before .if2 .left, t .small, link-in _ t (c .before .before .before .before .before .before .before .if2 .left) (w .free refl))
+insert-requires c κs =
+    let l = c .before .before .before .before .before .before .before .before .before .before in
+    let t = l .loop .inv .0 in
+    let n = long l in
+    let w = subst (Walked _ _ _ _ _ _) (c .before .before .if4 .left) (c .before .before .before .walk .ensures) in (
+      c .before .before .before .before .before .before .before .before .if2 .left,
+      omega (arith, t .table .small),
+      link-in _ (t .table) (omega (arith, c .before .before .before .before .before .before .before .before .if2 .left)) (omega (arith, t .best-in, c .before .before .before .before .before .before .before .before .before .if1 .left)) (w .free refl),
+      omega arith,
+    )
 
 add-count : tie.Need-add-count Inv-loop μ-loop
-add-count c = omega (arith, c .before .before .before .before .before .before .before .before .before .before .before .before .if2 .left, c .before .before .before .before .before .before .before .before .before .before .before .before .before .before .loop .inv .0 .table .small)
+add-count c = let l = c .before .before .before .before .before .before .before .before .before .before .before .before .before .before .before in omega (arith, c .before .before .before .before .before .before .before .before .before .before .before .before .before .if2 .left, l .loop .inv .0 .table .small, long l)
 
 next-start-requires : tie.Need-next-start-requires Inv-loop μ-loop
-next-start-requires c κs = omega (arith, c .before .before .before .before .before .before .before .before .before .before .before .before .before .before .loop .inv .0 .best-in, c .before .before .before .before .before .before .before .before .before .before .before .before .before .if1 .left)
+next-start-requires c κs = omega (arith, c .before .before .before .before .before .before .before .before .before .before .before .before .before .before .before .loop .inv .0 .best-in, c .before .before .before .before .before .before .before .before .before .before .before .before .before .before .if1 .left)
 
 loop-less : tie.Need-loop-less Inv-loop μ-loop
-loop-less c = omega (arith, c .next-start .ensures .falls, c .before .before .before .before .before .before .before .before .before .before .before .before .before .before .if1 .left)
+loop-less c = omega (arith, c .next-start .ensures .falls, c .before .before .before .before .before .before .before .before .before .before .before .before .before .before .before .if1 .left)
 
 loop-again : tie.Need-loop-again Inv-loop μ-loop
-loop-again c = let s = c .before .before .before .before .before .before .before .before .before .before .before .before .before .before .before .loop .inv in let e = c .before .before .before .before .before .insert .ensures in (block-more (s .0) _ _ _ _ (s .1) (c .before .before .before .before .before .before .before .before .before .before .before .before .before .before .if1 .left) (c .before .before .before .before .before .before .before .before .before .before .before .before .before .if2 .left) (subst (Walked _ _ _ _ _ _) (c .before .before .before .before .before .before .before .before .if3 .left) (c .before .before .before .before .before .before .before .before .before .walk .ensures)) (e .0) (e .1) (c .next-start .ensures) (next-low (c .next-start .ensures) (c .before .before .before .before .before .before .before .before .before .before .before .before .before .before .if1 .left) (s .0 .best-in) (best-start (s .2))), s .1, s .2, s .3, ap length (e .0) ∙ simp length-set (s .4), ap length (e .1) ∙ simp length-set (s .5))
+loop-again c =
+    let l = c .before .before .before .before .before .before .before .before .before .before .before .before .before .before .before .before in
+    let a = l .before .before .before .before .args in
+    let s = l .loop .inv in
+    let n = long l in
+    let h = c .before .before .before .before .before .before .before .before .before .before .before .before .before .before .before .if1 .left in
+    let e = c .before .before .before .before .before .insert .ensures in
+    let w = subst (Walked _ _ _ _ _ _) (c .before .before .before .before .before .before .before .before .if4 .left) (c .before .before .before .before .before .before .before .before .before .walk .ensures) in
+    let g = placed-more (a .from) (l .loop .starts) _ (l .loop .count) (l .loop .at) (s .0 .from-low) (e .1) in (
+      block-more (s .0) _ _ _ _ (s .1) h (omega (arith, c .before .before .before .before .before .before .before .before .before .before .before .before .before .before .if2 .left)) w (e .0) g (c .next-start .ensures) (next-low (c .next-start .ensures) h (s .0 .best-in) (best-start (s .2))),
+      s .1,
+      s .2,
+      s .3,
+      ap length (e .0) ∙ simp length-set (s .4),
+      ap length (e .1) ∙ simp length-set (s .5),
+    )
 
 same-length : tie.Need-same-length Inv-loop μ-loop
 same-length c = c .before .loop .inv .4
@@ -59,16 +91,25 @@ same-length-4 : tie.Need-same-length-4 Inv-loop μ-loop
 same-length-4 c = c .before .before .loop .inv .5
 
 returns-2 : tie.Need-returns-2 Inv-loop μ-loop
-returns-2 c = let s = c .before .before .loop .inv in block-full (s .0) (c .if2 .taken)
+returns-2 c = let l = c .before .before in let n = long l in block-full (l .loop .inv .0) (omega (arith, c .if2 .taken))
 
 same-length-5 : tie.Need-same-length-5 Inv-loop μ-loop
-same-length-5 c = c .before .before .before .before .before .before .before .loop .inv .4
+same-length-5 c = c .before .before .before .loop .inv .4
 
 same-length-6 : tie.Need-same-length-6 Inv-loop μ-loop
-same-length-6 c = c .before .before .before .before .before .before .before .loop .inv .5
+same-length-6 c = c .before .before .before .loop .inv .5
 
 returns-3 : tie.Need-returns-3 Inv-loop μ-loop
-returns-3 c = let s = c .before .before .before .before .before .before .before .loop .inv in block-hit (s .0) (c .before .before .before .before .before .before .if1 .left) (subst (Walked _ _ _ _ _ _) (c .if3 .taken) (c .before .walk .ensures))
+returns-3 c = let s = c .before .before .before .loop .inv in block-done (s .0) (omega arith)
+
+same-length-7 : tie.Need-same-length-7 Inv-loop μ-loop
+same-length-7 c = c .before .before .before .before .before .before .before .before .loop .inv .4
+
+same-length-8 : tie.Need-same-length-8 Inv-loop μ-loop
+same-length-8 c = c .before .before .before .before .before .before .before .before .loop .inv .5
+
+returns-4 : tie.Need-returns-4 Inv-loop μ-loop
+returns-4 c = let s = c .before .before .before .before .before .before .before .before .loop .inv in block-hit (s .0) (c .before .before .before .before .before .before .before .if1 .left) (subst (Walked _ _ _ _ _ _) (c .if4 .taken) (c .before .walk .ensures))
 
 pub gather-spec : {M : Type 1} → statement M
 gather-spec =
@@ -77,6 +118,7 @@ gather-spec =
     Inv-loop
     μ-loop
     loop-holds
+    sub-far
     name-hash-requires
     walk-requires
     insert-requires
@@ -92,4 +134,7 @@ gather-spec =
     returns-2
     same-length-5
     same-length-6
-    returns-3)
+    returns-3
+    same-length-7
+    same-length-8
+    returns-4)

@@ -5,14 +5,14 @@ use native.Mathlib.Omega.{arith}
 use borrow.Author.Needs.{needs}
 use Rattle.repeats.specs.Pieces.{starts}
 use Rattle.repeats.specs.Places.{Distinct, Best}
-use Rattle.repeats.specs.Table.{Walked, Block}
+use Rattle.repeats.specs.Table.{placed, Walked, Block}
 use Rattle.repeats.proofs.StartLaws.{next-low, best-start}
 use Rattle.repeats.proofs.BlockLaws.{Scanned, scan-none, scan-more, scan-hit, scan-end}
 use Rattle.repeats.proofs.look_ahead.Statement.{statement}
 use Rattle.repeats.proofs.look_ahead.Tie as tie
 
 abbrev Inv-loop : tie.InvT-loop
-Inv-loop pairs links starts count from mid best at₀ at = Block pairs links starts count from mid best × Distinct pairs from best × Best pairs best × (from < mid) × Scanned pairs from mid best at
+Inv-loop pairs links starts count from mid best at₀ at = Block pairs links (placed from starts) count from mid best × Distinct pairs from best × Best pairs best × (from < mid) × Scanned pairs from mid best at
 
 abbrev μ-loop : tie.MeasureT-loop
 μ-loop pairs links starts count from mid best at₀ at = best - at

@@ -13,7 +13,7 @@ slice-aggregate-turn-2 : tie.Need-slice-aggregate-turn-2
 slice-aggregate-turn-2 c = search needs
 
 turn-requires : tie.Need-turn-requires
-turn-requires c κs = new-block _ _ _ 13500 4500 refl (omega arith) (omega arith) (c .before .before .before .pre)
+turn-requires c κs = new-block _ _ _ 18900 6300 refl (omega arith) (omega arith) (c .before .before .before .pre)
 
 returns : tie.Need-returns
 returns c = search needs
