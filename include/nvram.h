@@ -90,7 +90,7 @@ uint32_t nvram_normalize(uint8_t *image, size_t image_len, size_t *offset);
 
 /* Writes a listing of the partitions to the start of the text buffer; a line
  * "refused N at P" or "too long" (above 65536 bytes) where there is none.
- * Codes 0 and 14. 98335 bytes of text are enough for every image. */
+ * Codes 0 and 14. 131072 bytes of text are enough for every image. */
 uint32_t nvram_listing(const uint8_t *image, size_t image_len,
                        uint8_t *text, size_t text_len, size_t *length);
 

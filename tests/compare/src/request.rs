@@ -181,9 +181,14 @@ pub fn wrapped(image: &mut [u8], request: &Request) -> Reply {
         Request::Normalize => nvram::normalize(image).map(|()| [0; 3]),
         Request::Listing(_) => nvram::listing(image, &mut buffer).map(|text| [text.len(), 0, 0]),
     };
+    reply(result.map_err(|error| (error.code.number(), error.offset)), buffer)
+}
+
+/// A reply from the outputs, or from the code and the offset of an error.
+fn reply(result: Result<[usize; 3], (u32, usize)>, buffer: Vec<u8>) -> Reply {
     let (code, offset, amounts) = match result {
         Ok(amounts) => (0, 0, amounts),
-        Err(error) => (error.code.number(), error.offset, [0; 3]),
+        Err((code, offset)) => (code, offset, [0; 3]),
     };
     Reply {
         code,
@@ -213,17 +218,7 @@ pub fn expected(image: &mut [u8], request: &Request) -> Reply {
         Request::Normalize => reference::normalize(image).map(|()| [0; 3]),
         Request::Listing(_) => expected_listing(image, &mut buffer),
     };
-    let (code, offset, amounts) = match result {
-        Ok(amounts) => (0, 0, amounts),
-        Err(refusal) => (refusal.code, refusal.offset, [0; 3]),
-    };
-    Reply {
-        code,
-        offset,
-        amounts,
-        buffer,
-        stray: false,
-    }
+    reply(result.map_err(|refusal| (refusal.code, refusal.offset)), buffer)
 }
 
 /// Puts the whole listing at the start of the text, or refuses with 14 if it has no room.

@@ -1,5 +1,5 @@
 -- `repeats::walk` meets its contract. The invariant: the entries of that name are all ahead in the walk.
-use Prim.Native.Nat.{ℕ, _+_, _-_}
+use Prim.Native.Nat.{ℕ, _+_, _-_, _<_}
 use mathlib.Core.Path.{_≡_, sym, ap, _∙_}
 use native.Mathlib.Omega.{arith}
 use lib.ListN.{length, getD}
@@ -22,15 +22,21 @@ abbrev μ-loop : tie.MeasureT-loop
 long : (s : tie.At-loop Inv-loop μ-loop) → length (placed (s .before .before .before .before .args .from) (s .before .before .before .before .args .starts .now)) ≡ length (s .before .before .before .before .args .starts .now)
 long s = placed-length (s .before .before .before .before .args .from) (s .before .before .before .before .args .starts .now)
 
+-- the entry that a link leads to is one of those that are lent
+few : (e : tie.Else1 Inv-loop μ-loop)
+    → (e .before .wide .result - 1 < length (e .before .before .before .before .before .before .before .args .starts .now)) × (length (e .before .before .before .before .before .before .before .args .starts .now) < 65536)
+few e =
+    let l = e .before .before .before in
+    let t = l .loop .inv .0 in
+    (omega (arith, t .room, long l, t .below _ _ (next-is (e .before .wide .ensures) (e .if1 .left))), omega (arith, t .small, long l))
+
 -- the start of an entry
 start : (s : tie.After-distance Inv-loop μ-loop)
     → getD (placed (s .before .before .before .before .before .before .before .before .before .args .from) (s .before .before .before .before .before .before .before .before .before .args .starts .now)) (s .before .before .before .wide .result - 1) 0 ≡ s .before .before .before .before .before .before .before .before .before .args .from + s .distance .result
 start s =
     let e = s .before .before in
-    let l = e .before .before .before in
-    let a = l .before .before .before .before .args in
-    let k = next-is (e .before .wide .ensures) (e .if1 .left) in
-    placed-at (a .from) (a .starts .now) _ (omega (arith, l .loop .inv .0 .below _ _ k, l .loop .inv .0 .room, long l)) ∙ ap (λ (x : ℕ). a .from + x) (sym (s .distance .ensures))
+    let a = e .before .before .before .before .before .before .before .args in
+    placed-at (a .from) (a .starts .now) _ (few e .0) ∙ ap (λ (x : ℕ). a .from + x) (sym (s .distance .ensures))
 
 mul-link : tie.Need-mul-link Inv-loop μ-loop
 mul-link c = let s = c .before .before .before in omega (arith, scaled (s .args .h) (length (s .args .starts .now)), s .pre .0 .small, placed-length (s .args .from) (s .args .starts .now))
@@ -54,10 +60,10 @@ sub-i : tie.Need-sub-i Inv-loop μ-loop
 sub-i c = search needs
 
 mul-distance : tie.Need-mul-distance Inv-loop μ-loop
-mul-distance c = let l = c .before .before .before in omega (arith, l .loop .inv .0 .room, l .loop .inv .0 .small, long l, l .loop .inv .0 .below _ _ (next-is (c .before .wide .ensures) (c .if1 .left)))
+mul-distance c = omega (arith, few c)
 
 shared-slice-read-distance : tie.Need-shared-slice-read-distance Inv-loop μ-loop
-shared-slice-read-distance c = let l = c .before .before .before .before in omega (arith, l .loop .inv .0 .room, long l, l .loop .inv .0 .below _ _ (next-is (c .before .before .wide .ensures) (c .before .if1 .left)))
+shared-slice-read-distance c = few (c .before) .0
 
 distance-requires : tie.Need-distance-requires Inv-loop μ-loop
 distance-requires c κs = search needs
@@ -72,13 +78,13 @@ same-name-requires : tie.Need-same-name-requires Inv-loop μ-loop
 same-name-requires c κs = search needs
 
 mul-link-2 : tie.Need-mul-link-2 Inv-loop μ-loop
-mul-link-2 c = let e = c .before .before .before .before in let l = e .before .before .before in omega (arith, l .loop .inv .0 .room, l .loop .inv .0 .small, long l, l .loop .inv .0 .below _ _ (next-is (e .before .wide .ensures) (e .if1 .left)))
+mul-link-2 c = omega (arith, few (c .before .before .before .before))
 
 add-link : tie.Need-add-link Inv-loop μ-loop
-add-link c = let e = c .before .before .before .before in let l = e .before .before .before in omega (arith, l .loop .inv .0 .room, l .loop .inv .0 .small, long l, l .loop .inv .0 .below _ _ (next-is (e .before .wide .ensures) (e .if1 .left)))
+add-link c = omega (arith, few (c .before .before .before .before))
 
 add-link-2 : tie.Need-add-link-2 Inv-loop μ-loop
-add-link-2 c = let e = c .before .before .before .before in let l = e .before .before .before in omega (arith, l .loop .inv .0 .room, l .loop .inv .0 .small, long l, l .loop .inv .0 .below _ _ (next-is (e .before .wide .ensures) (e .if1 .left)))
+add-link-2 c = omega (arith, few (c .before .before .before .before))
 
 loop-less : tie.Need-loop-less Inv-loop μ-loop
 loop-less c = let e = c .before .before .before .before in let l = e .before .before .before in omega (arith, l .loop .inv .0 .long, l .loop .inv .0 .room, long l, l .loop .inv .2 .low, l .loop .inv .0 .onward _ _ (next-is (e .before .wide .ensures) (e .if1 .left)))
