@@ -2,10 +2,11 @@
 use Prim.Native.Nat.{ℕ, zero, suc, _+_, _-_, _/_, _%_, _≤_, _<_}
 use mathlib.Core.Path.{_≡_, ap, refl, sym, _∙_}
 use mathlib.Core.List.{List, [], _∷_}
+use mathlib.Core.Logic.{_↔_}
 use native.Mathlib.Omega.{arith}
 use native.Mathlib.Decide.{decLe}
 use borrow.Author.Tests.{le-leb, lt-leb}
-use Rattle.lists.specs.Bytes.{AllBytes}
+use Rattle.lists.specs.Bytes.{Every, AllBytes}
 use Rattle.header.specs.declared.Header.{Header}
 use Rattle.header.specs.Header.{covered}
 use Rattle.header.specs.Checksum.{addCarry, sumFrom, sumcheck, sum, closedForm}
@@ -36,6 +37,29 @@ sum-closed s (b ∷ bs) a =
 pub closed-form : (bs : List ℕ) → AllBytes bs → sumcheck bs ≡ closedForm (sum bs)
 unfolding closedForm
 closed-form bs a = let e : 0 + sum bs ≡ sum bs = omega arith in sum-closed 0 bs a ∙ ap closedForm e
+
+sum-of-zeros : (bs : List ℕ) → Every (λ b. b ≡ 0) bs → sum bs ≡ 0
+unfolding sum
+sum-of-zeros [] z = refl
+sum-of-zeros (b ∷ bs) z = omega (arith, z .0, sum-of-zeros bs (z .1))
+
+zeros-of-sum : (bs : List ℕ) → sum bs ≡ 0 → Every (λ b. b ≡ 0) bs
+unfolding sum
+zeros-of-sum [] e = tt
+zeros-of-sum (b ∷ bs) e = (omega arith, zeros-of-sum bs (omega arith))
+
+closed-none : (s : ℕ) → closedForm s ≡ 0 → s ≡ 0
+unfolding closedForm
+closed-none zero e = refl
+closed-none (suc m) e = absurd (omega arith)
+
+-- 0 comes out exactly where every covered byte is zero
+pub zero-exactly : (bs : List ℕ) → AllBytes bs → (sumcheck bs ≡ 0) ↔ Every (λ b. b ≡ 0) bs
+unfolding closedForm
+zero-exactly bs a = (
+  λ e. zeros-of-sum bs (closed-none (sum bs) (sym (closed-form bs a) ∙ e)),
+  λ z. closed-form bs a ∙ ap closedForm (sum-of-zeros bs z),
+)
 
 pub closed-zero : (s : ℕ) → s ≡ 0 → 0 ≡ closedForm s
 unfolding closedForm

@@ -1,4 +1,4 @@
--- Laws of the plain sum: over a list that is passed from the front, and of the name in an image.
+-- Laws of the plain sum over a list that is passed from the front, and of the 16 bytes of a whole header.
 use Prim.Native.Nat.{ℕ, zero, suc, _+_, _-_, _≤_, _<_}
 use mathlib.Core.Path.{_≡_, ap, refl, sym, _∙_}
 use mathlib.Core.List.{List, [], _∷_}
@@ -35,3 +35,11 @@ unfolding nameAt
 name-sum image at h =
     let n : at + 16 - (at + 4) ≡ 12 = omega arith in
     (λ i. sum (take (n i) (drop (at + 4) image))) ∙ ap sum (part-bytes image at 4 12 (omega arith))
+
+-- A WHOLE HEADER is its 16 bytes in their order: signature, checksum, the length's two bytes, name
+pub header-bytes : (image : List ℕ) (at : ℕ) → at + 16 ≤ length image
+    → take 16 (drop at image) ≡ byteAt image at 0 ∷ byteAt image at 1 ∷ byteAt image at 2 ∷ byteAt image at 3 ∷ nameAt image at
+unfolding nameAt
+header-bytes image at h =
+    let e : at ≡ at + 0 = omega arith in
+    ap (λ (n : ℕ). take 16 (drop n image)) e ∙ part-bytes image at 0 16 (omega arith)

@@ -87,30 +87,20 @@ module _ (signature : ℕ) (blocks : Blocks) (name : List ℕ) (s : ℕ)
         (newHeader signature blocks name)
     new-allowed l = made true (rw (le-leb _ _ least, le-leb _ _ l))
 
--- the tests of a header that breaks no rule
-valid-tests : (a b c d : Bool) (w x y z : Error)
-    → pickValidity a (Invalid w) (pickValidity b (Invalid x) (pickValidity (not c) (Invalid y) (pickValidity d (Invalid z) Valid))) ≡ Valid
-    → (a ≡ false) × (b ≡ false) × (c ≡ true) × (d ≡ false)
-valid-tests true b c d w x y z e = clash (cc)
-valid-tests false true c d w x y z e = clash (cc)
-valid-tests false false false d w x y z e = clash (cc)
-valid-tests false false true true w x y z e = clash (cc)
-valid-tests false false true false w x y z e = (refl, refl, refl, refl)
+-- the first two tests of a header that breaks no rule
+valid-tests : (a b : Bool) (w x : Error) (v : Validity) → pickValidity a (Invalid w) (pickValidity b (Invalid x) v) ≡ Valid
+    → (a ≡ false) × (b ≡ false)
+valid-tests true b w x v e = clash (cc)
+valid-tests false true w x v e = clash (cc)
+valid-tests false false w x v e = (refl, refl)
 
 module _ (h : Header) (at room : ℕ) (e : validityOf h at room ≡ Valid) where
   tests : (eqb (h .length .0) 0 ≡ false) × (ltb room (bytesOf (h .length) .0) ≡ false)
-      × (eqb (h .checksum) (sumcheck (covered h)) ≡ true) × (eqb (sumcheck (covered h)) 0 ≡ false)
   unfolding validityOf
-  tests = valid-tests _ _ _ _ (ZeroLength at) (PastEnd at) (Checksum at) (ZeroChecksum at) e
+  tests = valid-tests _ _ (ZeroLength at) (PastEnd at) _ e
 
   pub valid-nonzero : h .length .0 ≢ 0
   valid-nonzero = eqb-false _ _ (tests .0)
 
   pub valid-fits : bytesOf (h .length) .0 ≤ room
   valid-fits = ltb-false _ _ (tests .1)
-
-  pub valid-agrees : h .checksum ≡ sumcheck (covered h)
-  valid-agrees = eqb-true _ _ (tests .2)
-
-  pub valid-marked : sumcheck (covered h) ≢ 0
-  valid-marked = eqb-false _ _ (tests .3)
