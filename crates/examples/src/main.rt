@@ -63,7 +63,7 @@ fn area_of(image: &[u8], blocks: u32) {
     }
     let mut code: u32 = 0;
     let mut offset: usize = 0;
-    let area = partitions::area(&image[..end], 0x70, b"common", &mut code, &mut offset);
+    let area = lookup::area(&image[..end], 0x70, b"common", &mut code, &mut offset);
     let n = area.len();
     io::print_decimal(STDOUT_FILENO, blocks as u64);
     io::write_all(STDOUT_FILENO, b" blocks: code ");

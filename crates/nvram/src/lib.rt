@@ -47,7 +47,7 @@ pub fn partition(image: &[u8], index: usize) -> Found
 pub fn find(image: &[u8], signature: u8, name: &[u8]) -> Found
     ensures { λ r. ⌜ r ≡ findOf (now (image .entry)) signature (now (name .entry)) ⌝ }
 {
-    partitions::find(image, signature, name)
+    lookup::find(image, signature, name)
 }
 
 // Its data area as a part of the image, empty where it is refused; the code and the offset are stored.
@@ -62,14 +62,14 @@ pub fn area<'a>(
     ensures stored { λ r. ⌜ now (code .exit) ≡ findAnswer (findOf (now (image .entry)) signature (now (name .entry))) .code ⌝ }
     ensures place { λ r. ⌜ now (offset .exit) ≡ findAnswer (findOf (now (image .entry)) signature (now (name .entry))) .offset ⌝ }
 {
-    partitions::area(image, signature, name, code, offset)
+    lookup::area(image, signature, name, code, offset)
 }
 
 // Where the variable area stands: in the first partition `common`.
 fn common_area(image: &[u8]) -> Span
     ensures { λ r. ⌜ r ≡ areaSpan (findOf (now (image .entry)) 0x70 common) ⌝ }
 {
-    match partitions::find(image, SIGNATURE, b"common") {
+    match lookup::find(image, SIGNATURE, b"common") {
         Found::At(p) => {
             let bytes = p.blocks.bytes();
             Span::At {

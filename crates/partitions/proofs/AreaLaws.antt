@@ -12,7 +12,6 @@ use Rattle.lists.proofs.Tests.{clash}
 use Rattle.header.specs.declared.Bytes.{Bytes}
 use Rattle.header.specs.declared.Error.{Error}
 use Rattle.header.specs.declared.Validity.the-variants.{Valid}
-use Rattle.header.specs.Errors.{codeOf, offsetOf}
 use Rattle.header.specs.Header.{headerAt, bytesOf, validityAt}
 use Rattle.header.proofs.ValidityLaws.{valid-nonzero, valid-fits}
 use Rattle.partitions.specs.declared.Partition.{Partition}
@@ -114,19 +113,6 @@ module _ (image : List ℕ) (signature : ℕ) (name : List ℕ) (f : Found) (ef 
           ap (λ (n : ℕ). take n (drop (p .offset + 16) image)) e
           ∙ ap (λ (x : Bytes). take (x .0 - 16) (drop (p .offset + 16) image)) eb
           ∙ ap (areaOf image) (sym ep ∙ ef)
-
-    pub told-found : (0 ≡ findAnswer (findOf image signature name) .code) × (0 ≡ findAnswer (findOf image signature name) .offset)
-    told-found = (ap (λ (x : Found). findAnswer x .code) (sym ep ∙ ef), ap (λ (x : Found). findAnswer x .offset) (sym ep ∙ ef))
-
-  module _ (e : Error) (ee : f ≡ Refused e) where
-    pub no-area : [] ≡ areaOf image (findOf image signature name)
-    unfolding areaOf
-    no-area = ap (areaOf image) (sym ee ∙ ef)
-
-    pub told-refused : (c o : ℕ) → c ≡ codeOf e → o ≡ offsetOf e
-        → (c ≡ findAnswer (findOf image signature name) .code) × (o ≡ findAnswer (findOf image signature name) .offset)
-    told-refused c o ec eo =
-        (ec ∙ ap (λ (x : Found). findAnswer x .code) (sym ee ∙ ef), eo ∙ ap (λ (x : Found). findAnswer x .offset) (sym ee ∙ ef))
 
 -- the area has 16 x (blocks - 1) bytes: those from offset + 16 to offset + 16 x blocks
 module _ (image : List ℕ) (p : Partition) (i : Inside image p) where

@@ -5,7 +5,7 @@ use mathlib.Core.Logic.{_↔_, _⊎_, inl, inr}
 use mathlib.Core.Bool.{Bool, true, false, _&&_}
 use mathlib.Core.List.{List, [], _∷_, _++_}
 use native.Mathlib.Omega.{arith}
-use lib.ListN.{length, replicate, length-append}
+use lib.ListN.{length, replicate, length-append, length-replicate}
 use lib.Dec.{eqb}
 use borrow.Author.Tests.{eq-eqb, eqb-true}
 use Rattle.lists.specs.Bytes.{AllBytes, sameBytes}
@@ -22,8 +22,11 @@ use Rattle.partitions.specs.declared.Found.the-variants.{At, Refused}
 use Rattle.partitions.specs.Walk.{Walk, covered, broken, walk}
 use Rattle.partitions.specs.Find.{padded, matches, firstMatch, findBy, findOf, atIndex, indexBy, indexOf}
 use Rattle.partitions.specs.Cover.{Accepted, Rejected, one, header, Named, NoneNamed, FirstNamed, Indexed, NotNamed, NotIndexed}
-use Rattle.partitions.proofs.NameLaws.{length-padded}
 use Rattle.partitions.proofs.CoverLaws.{Walked, accepts, rejects, walked, accepted-exactly, rejected-exactly, one-cover}
+
+pub length-padded : (n : ℕ) (name : List ℕ) → length (padded n name) ≡ length name + (n - length name)
+unfolding padded
+length-padded n name = simp (length-append, length-replicate)
 
 -- the test of a name and the rule
 name-length : (image : List ℕ) (at : ℕ) → length (nameAt image at) ≡ 12

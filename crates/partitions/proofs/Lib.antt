@@ -1,7 +1,6 @@
 pub mod StepLaws
 pub mod WalkLaws
 pub mod CheckLaws
-pub mod NameLaws
 pub mod FindLaws
 pub mod CoverLaws
 pub mod AreaLaws

@@ -1,8 +1,8 @@
 use borrow.Author.Needs.{needs}
 use denote.Ref.{now}
-use Rattle.partitions.proofs.NameLaws.{name-read}
-use Rattle.partitions.proofs.has_name.Statement.{statement}
-use Rattle.partitions.proofs.has_name.Tie as tie
+use Rattle.lookup.proofs.NameLaws.{name-read}
+use Rattle.lookup.proofs.has_name.Statement.{statement}
+use Rattle.lookup.proofs.has_name.Tie as tie
 
 read-requires : tie.Need-read-requires
 read-requires c κs = search needs

@@ -3,10 +3,10 @@ use mathlib.Core.Path.{_≡_, refl}
 use native.Mathlib.Omega.{arith}
 use lib.ListN.{length}
 use denote.Ref.{now}
-use Rattle.partitions.proofs.NameLaws.{Agree, too-long, agree-next, agree-differs, agree-all}
+use Rattle.lookup.proofs.NameLaws.{Agree, too-long, agree-next, agree-differs, agree-all}
 use borrow.Author.Needs.{needs}
-use Rattle.partitions.proofs.same_padded.Statement.{statement}
-use Rattle.partitions.proofs.same_padded.Tie as tie
+use Rattle.lookup.proofs.same_padded.Statement.{statement}
+use Rattle.lookup.proofs.same_padded.Tie as tie
 
 abbrev Inv-loop : tie.InvT-loop
 Inv-loop stored name n i₀ i = (n ≡ length stored) × (length name ≤ n) × Agree stored name i

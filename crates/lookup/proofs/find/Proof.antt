@@ -6,17 +6,17 @@ use lib.ListN.{length}
 use denote.Ref.{now}
 use borrow.Author.Tests.{not-true, not-false}
 use Rattle.header.specs.declared.Error.the-variants.{NoPartition}
 use Rattle.partitions.specs.declared.Partition.{Partition}
 use Rattle.partitions.specs.declared.Cursor.{Cursor}
 use Rattle.partitions.specs.declared.Step.the-variants.{Next}
 use Rattle.partitions.specs.declared.Found.{Found}
 use Rattle.partitions.specs.declared.Found.the-variants.{Refused}
 use Rattle.partitions.specs.Find.{findOf}
 use Rattle.partitions.proofs.WalkLaws.{next-bounds, rest, onWalk, loop-next, loop-end, loop-broken}
-use Rattle.partitions.proofs.FindLaws.{seekName, name-refused, name-start, seek-signed, seek-other}
+use Rattle.lookup.proofs.SeekLaws.{seekName, name-refused, name-start, seek-signed, seek-other}
 use borrow.Author.Needs.{needs}
-use Rattle.partitions.proofs.find.Statement.{statement}
-use Rattle.partitions.proofs.find.Tie as tie
+use Rattle.lookup.proofs.find.Statement.{statement}
+use Rattle.lookup.proofs.find.Tie as tie
 
 abbrev Inv-loop : tie.InvT-loop
 Inv-loop image signature name cursor₀ best₀ cursor best = onWalk (seekName image signature name best) Refused (rest image (cursor .at)) ≡ findOf image signature name

@@ -4,14 +4,15 @@ use mathlib.Core.Path.{_≡_, ap, refl, sym, _∙_}
 use mathlib.Core.Bool.{Bool, true, false, _&&_}
 use mathlib.Core.List.{List, [], _∷_, _++_}
 use native.Mathlib.Omega.{arith}
-use lib.ListN.{length, drop, getD, replicate, length-append, length-replicate, drop-of-length-le}
+use lib.ListN.{length, drop, getD, replicate, drop-of-length-le}
 use lib.Dec.{eqb}
 use borrow.Author.Tests.{eq-eqb, ne-eqb}
 use Rattle.lists.specs.Bytes.{sameBytes}
 use Rattle.lists.proofs.ByteLaws.{same-longer, same-step}
 use Rattle.header.specs.declared.Header.{Header}
 use Rattle.header.specs.Header.{headerAt, nameAt}
 use Rattle.partitions.specs.Find.{padded, matches}
+use Rattle.partitions.proofs.FoundLaws.{length-padded}
 
 zeros-at : (k i : ℕ) → _≡_ {A = ℕ} (getD (replicate k 0) i 0) 0
 zeros-at zero i = refl
@@ -22,10 +23,6 @@ filled-at : (name : List ℕ) (k i : ℕ) → getD (name ++ replicate k 0) i 0 �
 filled-at [] k i = zeros-at k i
 filled-at (x ∷ xs) k zero = refl
 filled-at (x ∷ xs) k (suc i) = filled-at xs k i
-
-pub length-padded : (n : ℕ) (name : List ℕ) → length (padded n name) ≡ length name + (n - length name)
-unfolding padded
-length-padded n name = simp (length-append, length-replicate)
 
 padded-at : (n : ℕ) (name : List ℕ) (i : ℕ) → getD (padded n name) i 0 ≡ getD name i 0
 unfolding padded

@@ -2,8 +2,8 @@ use mathlib.Core.Path.{sym}
 use denote.Ref.{now}
 use lib.ListN.{List·getD-eq-default}
 use borrow.Author.Needs.{needs}
-use Rattle.partitions.proofs.padded_byte.Statement.{statement}
-use Rattle.partitions.proofs.padded_byte.Tie as tie
+use Rattle.lookup.proofs.padded_byte.Statement.{statement}
+use Rattle.lookup.proofs.padded_byte.Tie as tie
 
 shared-slice-read-result : tie.Need-shared-slice-read-result
 shared-slice-read-result c = search needs

@@ -1,6 +1,6 @@
 use borrow.Author.Needs.{needs}
-use Rattle.partitions.proofs.first_named.Statement.{statement}
-use Rattle.partitions.proofs.first_named.Tie as tie
+use Rattle.lookup.proofs.first_named.Statement.{statement}
+use Rattle.lookup.proofs.first_named.Tie as tie
 
 enum-known-best : tie.Need-enum-known-best
 enum-known-best c = search needs

@@ -2,10 +2,11 @@ use Prim.Native.Nat.{_+_, _≤_}
 use native.Mathlib.Omega.{arith}
 use lib.ListN.{length}
 use denote.Ref.{now}
-use Rattle.partitions.proofs.AreaLaws.{found-part, found-area, told-found, no-area, told-refused}
+use Rattle.partitions.proofs.AreaLaws.{found-part, found-area}
+use Rattle.lookup.proofs.ToldLaws.{told-found, no-area, told-refused}
 use borrow.Author.Needs.{needs}
-use Rattle.partitions.proofs.area.Statement.{statement}
-use Rattle.partitions.proofs.area.Tie as tie
+use Rattle.lookup.proofs.area.Statement.{statement}
+use Rattle.lookup.proofs.area.Tie as tie
 
 inside : (b : tie.After-bytes) → (16 ≤ b .bytes .result .0)
     × (b .before .before .found .given .0 .0 .offset + b .bytes .result .0 ≤ length (now (b .before .before .before .before .before .before .before .args .image)))

@@ -1,0 +1,70 @@
+-- The loop that looks for a partition by its signature and name.
+use Prim.Native.Nat.{ℕ}
+use mathlib.Core.Path.{_≡_, ap, refl, sym, _∙_}
+use mathlib.Core.Bool.{Bool, true, false}
+use mathlib.Core.List.{List, [], _∷_}
+use lib.ListN.{length}
+use Rattle.lists.specs.Bytes.{sameBytes}
+use Rattle.header.specs.declared.Error.the-variants.{ImageLength, NoPartition}
+use Rattle.header.specs.Header.{headerAt}
+use Rattle.partitions.specs.declared.Partition.{Partition}
+use Rattle.partitions.specs.declared.Found.{Found}
+use Rattle.partitions.specs.declared.Found.the-variants.{At, Refused}
+use Rattle.partitions.specs.Walk.{Walk, covered, broken, walk, allowedLength}
+use Rattle.partitions.specs.Find.{padded, matches, keepFirst, firstMatch, findBy, findOf}
+use Rattle.partitions.proofs.WalkLaws.{rest, walk-rest, walk-refused, onWalk}
+use Rattle.lookup.proofs.NameLaws.{matches-signed, matches-other}
+
+-- what the turns so far make of the partitions that are left
+abbrev pub seekName : List ℕ → ℕ → List ℕ → Found → List Partition → Found
+seekName image signature name best [] = best
+seekName image signature name best (p ∷ ps) =
+    seekName image signature name (keepFirst best (matches image signature name (p .offset)) p) ps
+
+module _ (image : List ℕ) (signature : ℕ) (name : List ℕ) where
+  name-kept : (q : Partition) (ps : List Partition) → seekName image signature name (At q) ps ≡ At q
+  name-kept q [] = refl
+  name-kept q (p ∷ ps) = name-kept q ps
+
+  seek-name : (ps : List Partition) → seekName image signature name (Refused NoPartition) ps ≡ firstMatch image signature name ps
+  unfolding firstMatch
+  seek-name [] = refl
+  seek-name (p ∷ ps) = go (matches image signature name (p .offset)) refl (seek-name ps)
+    where
+      go : (b : Bool) → matches image signature name (p .offset) ≡ b
+          → seekName image signature name (Refused NoPartition) ps ≡ firstMatch image signature name ps
+          → seekName image signature name (Refused NoPartition) (p ∷ ps) ≡ firstMatch image signature name (p ∷ ps)
+      go true e ih = rw e (name-kept p ps)
+      go false e ih = rw e ih
+
+  name-on : (w : Walk) → onWalk (seekName image signature name (Refused NoPartition)) Refused w ≡ findBy image signature name w
+  unfolding findBy
+  name-on (covered ps) = seek-name ps
+  name-on (broken e) = refl
+
+  pub name-refused : allowedLength (length image) ≡ false → Refused ImageLength ≡ findOf image signature name
+  unfolding findOf findBy
+  name-refused a = ap (findBy image signature name) (sym (walk-refused image a))
+
+  pub name-start : allowedLength (length image) ≡ true
+      → onWalk (seekName image signature name (Refused NoPartition)) Refused (rest image 0) ≡ findOf image signature name
+  unfolding findOf
+  name-start a = name-on (rest image 0) ∙ ap (findBy image signature name) (sym (walk-rest image a))
+
+  -- a turn of the loop, where the signature agrees and where not
+  module _ (best : Found) (p : Partition) (ps : List Partition) (s : ℕ) (es : s ≡ headerAt image (p .offset) .signature) where
+    pub seek-signed : s ≡ signature → (r : Found)
+        → r ≡ keepFirst best (sameBytes (headerAt image (p .offset) .name) (padded 12 name)) p
+        → seekName image signature name best (p ∷ ps) ≡ seekName image signature name r ps
+    seek-signed e r er =
+        ap (λ (b : Bool). seekName image signature name (keepFirst best b p) ps) (matches-signed image (p .offset) signature name (sym es ∙ e))
+        ∙ ap (λ (f : Found). seekName image signature name f ps) (sym er)
+
+    pub seek-other : (s ≡ signature → ⊥) → seekName image signature name best (p ∷ ps) ≡ seekName image signature name best ps
+    seek-other d =
+        ap (λ (b : Bool). seekName image signature name (keepFirst best b p) ps) (matches-other image (p .offset) signature name (λ q. d (es ∙ q)))
+        ∙ ap (λ (f : Found). seekName image signature name f ps) (unwanted best)
+      where
+        unwanted : (f : Found) → keepFirst f false p ≡ f
+        unwanted (At q) = refl
+        unwanted (Refused e) = refl

@@ -1,0 +1,123 @@
+// A partition by its signature and name, and its data area.
+ghost use mathlib.Core.Path.{_≡_};
+ghost use lib.ListN.{length, getD};
+ghost use Rattle.lists.specs.Bytes.{sameBytes};
+ghost use Rattle.header.specs.Header.{headerAt};
+ghost use Rattle.partitions.specs.Find.{padded, keepFirst, findOf, areaOf};
+ghost use Rattle.partitions.specs.Answers.{findAnswer};
+use header::Error;
+use header::Header;
+use partitions::Cursor;
+use partitions::Found;
+use partitions::Partition;
+use partitions::Step;
+
+// The byte at an index, 0 past the name's end.
+fn padded_byte(name: &[u8], i: usize) -> u8
+    ensures { λ r. ⌜ r ≡ getD (now (name .entry)) i 0 ⌝ }
+{
+    if i < name.len() { name[i] } else { 0 }
+}
+
+// Whether stored bytes are a name that is filled with 0x00.
+fn same_padded(stored: &[u8], name: &[u8]) -> bool
+    ensures { λ r. ⌜ r ≡ sameBytes (now (stored .entry)) (padded (length (now (stored .entry))) (now (name .entry))) ⌝ }
+{
+    let n = stored.len();
+    if n < name.len() {
+        return false;
+    }
+    let mut i = 0;
+    while i < n {
+        if stored[i] != padded_byte(name, i) {
+            return false;
+        }
+        i += 1;
+    }
+    true
+}
+
+// The same of a header's name.
+fn same_name(stored: &[u8; 12], name: &[u8]) -> bool
+    ensures { λ r. ⌜ r ≡ sameBytes (now (stored .entry)) (padded (length (now (stored .entry))) (now (name .entry))) ⌝ }
+{
+    same_padded(stored, name)
+}
+
+// Whether the header at an offset has this name.
+fn has_name(image: &[u8], at: usize, name: &[u8]) -> bool
+    ensures { λ r. ⌜ r ≡ sameBytes (headerAt (now (image .entry)) at .name) (padded 12 (now (name .entry))) ⌝ }
+{
+    let stored = Header::read(image, at).name;
+    same_name(&stored, name)
+}
+
+// What was found before, or else the partition where it has this name; its name is read only where nothing was found.
+fn first_named(best: Found, image: &[u8], p: Partition, name: &[u8]) -> Found
+    ensures { λ r. ⌜ r ≡ keepFirst best (sameBytes (headerAt (now (image .entry)) (p .offset) .name) (padded 12 (now (name .entry)))) p ⌝ }
+{
+    match best {
+        Found::At(q) => Found::At(q),
+        Found::Refused(e) => {
+            if has_name(image, p.offset, name) {
+                Found::At(p)
+            } else {
+                Found::Refused(e)
+            }
+        }
+    }
+}
+
+// The first partition in image order that has this signature and this name.
+pub fn find(image: &[u8], signature: u8, name: &[u8]) -> Found
+    ensures { λ r. ⌜ r ≡ findOf (now (image .entry)) signature (now (name .entry)) ⌝ }
+{
+    if !partitions::allowed_length(image.len()) {
+        return Found::Refused(Error::ImageLength);
+    }
+    let mut cursor = Cursor::start();
+    let mut best = Found::Refused(Error::NoPartition);
+    loop {
+        let step = cursor.step(image);
+        match step {
+            Step::Next(p, next) => {
+                if Header::signature_at(image, p.offset) == signature {
+                    best = first_named(best, image, p, name);
+                }
+                cursor = next;
+            }
+            Step::End => break best,
+            Step::Broken(e) => break Found::Refused(e),
+        }
+    }
+}
+
+// The data area of that partition as a part of the image, empty where it is refused; the code and the offset are stored.
+pub fn area<'a>(
+    image: &'a [u8],
+    signature: u8,
+    name: &[u8],
+    code: &mut u32,
+    offset: &mut usize,
+) -> &'a [u8]
+    ensures part { λ r. ⌜ now r ≡ areaOf (now (image .entry)) (findOf (now (image .entry)) signature (now (name .entry))) ⌝ }
+    ensures stored { λ r. ⌜ now (code .exit) ≡ findAnswer (findOf (now (image .entry)) signature (now (name .entry))) .code ⌝ }
+    ensures place { λ r. ⌜ now (offset .exit) ≡ findAnswer (findOf (now (image .entry)) signature (now (name .entry))) .offset ⌝ }
+{
+    let found = find(image, signature, name);
+    match found {
+        Found::At(p) => {
+            *code = 0;
+            *offset = 0;
+            let bytes = p.blocks.bytes();
+            let start = p.offset + Header::SIZE;
+            let end = p.offset + bytes.0;
+            &image[start..end]
+        }
+        Found::Refused(e) => {
+            *code = e.code();
+            *offset = e.offset();
+            &image[..0]
+        }
+    }
+}
