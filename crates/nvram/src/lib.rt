@@ -158,7 +158,7 @@ pub fn set(image: &mut [u8], name: &[u8], value: &[u8]) -> Edited
 {
     match common_area(image) {
         Span::At { start, end } => {
-            let answer = variables::set(&mut image[start..end], name, value);
+            let answer = edits::set(&mut image[start..end], name, value);
             moved_edit(answer, start)
         }
         Span::Refused(e) => Edited::Refused(name_first(name, e)),
@@ -172,7 +172,7 @@ pub fn remove(image: &mut [u8], name: &[u8]) -> Edited
 {
     match common_area(image) {
         Span::At { start, end } => {
-            let answer = variables::remove(&mut image[start..end], name);
+            let answer = edits::remove(&mut image[start..end], name);
             moved_edit(answer, start)
         }
         Span::Refused(e) => Edited::Refused(name_first(name, e)),
@@ -186,7 +186,7 @@ pub fn normalize(image: &mut [u8]) -> Edited
 {
     match common_area(image) {
         Span::At { start, end } => {
-            let answer = variables::normalize(&mut image[start..end]);
+            let answer = normalization::normalize(&mut image[start..end]);
             moved_edit(answer, start)
         }
         Span::Refused(e) => Edited::Refused(e),

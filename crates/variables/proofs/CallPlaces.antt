@@ -5,11 +5,12 @@ use mathlib.Core.Bool.{true, false}
 use mathlib.Core.List.{List, []}
 use native.Mathlib.Omega.{arith}
 use lib.ListN.{length, length-append}
+use lib.Dec.{ltb}
 use borrow.Author.Tests.{lt-ltb, le-ltb}
 use Rattle.lists.specs.Bytes.{sameBytes}
 use Rattle.lists.proofs.Tests.{split, clash}
 use Rattle.header.specs.declared.Error.{Error}
-use Rattle.header.specs.declared.Error.the-variants.{BadName, NoVariable, ShortBuffer}
+use Rattle.header.specs.declared.Error.the-variants.{BadName, NoVariable, NoRoom as NoAreaRoom, ShortBuffer}
 use Rattle.names.specs.declared.NameCheck.the-variants.{Good, Wrong}
 use Rattle.names.specs.Name.{nameCheck, isGood, goodName}
 use Rattle.values.specs.declared.Written.the-variants.{Length, NoRoom}
@@ -20,8 +21,8 @@ use Rattle.pairs.specs.declared.Place.{Place}
 use Rattle.pairs.specs.declared.Place.the-variants.{At, None}
 use Rattle.pairs.specs.Scan.{Stand, pair, finish, cut, wrongName, wrongEscape, standAt}
 use Rattle.pairs.specs.Area.{Pair, pairsBytes, Parse, parsed, faulty, parse}
-use Rattle.variables.specs.Edits.{Lookup, found, missing, lookup}
-use Rattle.variables.specs.Calls.{Call, count, read, Reply, done, refused, Outcome, refuse, wellNamed, readBy, callPairs, callArea}
+use Rattle.variables.specs.Edits.{areaOf, setPair, Lookup, found, missing, lookup}
+use Rattle.variables.specs.Calls.{Call, set, count, read, Reply, done, refused, Outcome, refuse, edited, pickOutcome, wellNamed, setIn, readBy, callPairs, callArea}
 use Rattle.pairs.specs.Places.{scannedOf, onFind, findFrom, findAt}
 use Rattle.variables.specs.Places.{Sought, valueAt, pairRead}
 use Rattle.pairs.proofs.PairPlaces.{pair-here}
@@ -68,6 +69,14 @@ good-told name e = ap isGood (sym e)
 pub wrong-told : (name : List ℕ) (k : ℕ) → Wrong k ≡ nameCheck name → goodName name ≡ false
 unfolding goodName
 wrong-told name k e = ap isGood (sym e)
+
+-- A SET BY THE PAIRS THAT IT MAKES: where they lack room it is refused and the area stays
+pub set-makes : (name value : List ℕ) (ps qs : List Pair) (area : List ℕ) → setPair name value ps ≡ qs
+    → callPairs (set name value) ps area
+    ≡ pickOutcome (ltb (length area) (length (pairsBytes qs) + 1)) (refuse NoAreaRoom (set name value) area) (edited (areaOf (length area) qs))
+unfolding callPairs setIn
+set-makes name value ps qs area s =
+    ap (λ (l : List Pair). pickOutcome (ltb (length area) (length (pairsBytes l) + 1)) (refuse NoAreaRoom (set name value) area) (edited (areaOf (length area) l))) s
 
 -- ---- count
 

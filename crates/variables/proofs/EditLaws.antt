@@ -1,5 +1,5 @@
 -- What the edits make of pairs: good pairs stay good, the others keep their places, and none but a set takes more room.
-use Prim.Native.Nat.{ℕ, _+_, _-_, _≤_, _<_}
+use Prim.Native.Nat.{ℕ, zero, suc, _+_, _-_, _≤_, _<_}
 use mathlib.Core.Path.{_≡_, refl, sym, ap, _∙_}
 use mathlib.Core.Bool.{true, false}
 use mathlib.Core.List.{List, [], _∷_, _++_}
@@ -33,6 +33,19 @@ length-area n ps h =
 pub parse-area : {ps : List Pair} (n : ℕ) → Good [] ps → parse (areaOf n ps) ≡ parsed ps
 unfolding areaOf
 parse-area {ps} n g = area-reads (replicate (n - (length (pairsBytes ps) + 1)) 0x00) g
+
+-- the ending 0x00 is the first of the zeros
+pub zeros-first : (n : ℕ) → 1 ≤ n → replicate {A = ℕ} n 0x00 ≡ 0x00 ∷ replicate (n - 1) 0x00
+zeros-first zero h = absurd (omega arith)
+zeros-first (suc n) h = let e : n ≡ suc n - 1 = omega arith in ap (λ (k : ℕ). 0x00 ∷ replicate k 0x00) e
+
+-- an area by its pairs and zeros
+pub area-zeros : (n : ℕ) (ps : List Pair) → length (pairsBytes ps) + 1 ≤ n → pairsBytes ps ++ replicate (n - length (pairsBytes ps)) 0x00 ≡ areaOf n ps
+unfolding areaOf
+area-zeros n ps h =
+    let e : n - length (pairsBytes ps) - 1 ≡ n - (length (pairsBytes ps) + 1) = omega arith in
+    ap (λ (l : List ℕ). pairsBytes ps ++ l)
+    (zeros-first (n - length (pairsBytes ps)) (omega arith) ∙ ap (λ (k : ℕ). 0x00 ∷ replicate k 0x00) e)
 
 -- ---- the pair of a name, and those before it and after it
 

@@ -3,7 +3,3 @@ pub mod LookupLaws
 pub mod LeavesLaws
 pub mod FoundLaws
 pub mod CallPlaces
-pub mod PutLaws
-pub mod SpliceLaws
-pub mod ReplaceLaws
-pub mod NormalizeLaws

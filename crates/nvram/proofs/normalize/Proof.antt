@@ -8,7 +8,7 @@ use Rattle.nvram.proofs.normalize.Reads as reads
 use Rattle.nvram.proofs.normalize.Lts as lts
 use Rattle.nvram.proofs.common_area.Reads as common-area-reads
 use Rattle.nvram.proofs.moved_edit.Reads as moved-edit-reads
-use Rattle.variables.proofs.normalize.Reads as normalize-reads
+use Rattle.normalization.proofs.normalize.Reads as normalize-reads
 
 -- where the variable area stands
 area : (c : tie.After-known-told) → AreaAt (now (c .before .before .before .before .before .before .args .image)) (c .before .start .given .0 .0) (c .before .start .given .0 .1 .0)

@@ -9,7 +9,7 @@ use Rattle.nvram.proofs.set.Lts as lts
 use Rattle.nvram.proofs.common_area.Reads as common-area-reads
 use Rattle.nvram.proofs.moved_edit.Reads as moved-edit-reads
 use Rattle.nvram.proofs.name_first.Reads as name-first-reads
-use Rattle.variables.proofs.set.Reads as set-reads
+use Rattle.edits.proofs.set.Reads as set-reads
 
 -- where the variable area stands
 area : (c : tie.After-known-told) → AreaAt (now (c .before .before .before .before .before .before .before .before .args .image)) (c .before .start .given .0 .0) (c .before .start .given .0 .1 .0)

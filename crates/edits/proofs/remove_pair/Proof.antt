@@ -1,0 +1,60 @@
+use mathlib.Core.Path.{sym, _∙_}
+use native.Mathlib.Omega.{arith}
+use denote.Ref.{now}
+use Rattle.variables.specs.EditPlaces.{editReply}
+use Rattle.edits.proofs.ReplaceLaws.{found-bounds, remove-found, remove-missing}
+use borrow.Author.Needs.{needs}
+use Rattle.edits.proofs.remove_pair.Statement.{statement}
+use Rattle.edits.proofs.remove_pair.Tie as tie
+
+enum-known-place : tie.Need-enum-known-place
+enum-known-place c = search needs
+
+add-shift-tail : tie.Need-add-shift-tail
+add-shift-tail c =
+    let k = c .before in
+    let g = k .before .place .given in
+    let s = k .before .before .before .before .before in
+    omega (arith, found-bounds (now (s .args .area)) (s .args .used) (s .pre .0) (now (s .args .name)) (g .0 .0) (g .0 .1 .0) (g .0 .1 .1 .0) (sym (g .1) ∙ s .pre .1))
+
+shift-tail-requires : tie.Need-shift-tail-requires
+shift-tail-requires c κs =
+    let k = c .before in
+    let g = k .before .place .given in
+    let s = k .before .before .before .before .before in
+    let b = found-bounds (now (s .args .area)) (s .args .used) (s .pre .0) (now (s .args .name)) (g .0 .0) (g .0 .1 .0) (g .0 .1 .1 .0) (sym (g .1) ∙ s .pre .1) in
+    (b .1, omega arith, omega arith)
+
+enum-told : tie.Need-enum-told
+enum-told c = search needs
+
+same-length : tie.Need-same-length
+same-length c = search needs
+
+returns : tie.Need-returns
+unfolding editReply
+returns c =
+    let r = c .before .before in
+    let k = r .before .before in
+    let g = k .before .place .given in
+    let s = k .before .before .before .before .before in
+    let h = remove-found (now (s .args .area)) (s .args .used) (s .pre .0) (now (s .args .name)) (g .0 .0) (g .0 .1 .0) (g .0 .1 .1 .0) (sym (g .1) ∙ s .pre .1) in
+    (h .0, r .shift-tail .ensures ∙ h .1)
+
+returns-2 : tie.Need-returns-2
+unfolding editReply
+returns-2 c =
+    let s = c .before .before .before .before in
+    remove-missing (now (s .args .area)) (s .args .used) (s .pre .0) (now (s .args .name)) (sym (c .enum-told .given .1) ∙ s .pre .1)
+
+pub remove-pair-spec : {M : Type 1} → statement M
+remove-pair-spec =
+    tie.close
+    (tie.spec
+    enum-known-place
+    add-shift-tail
+    shift-tail-requires
+    enum-told
+    same-length
+    returns
+    returns-2)
