@@ -44,7 +44,7 @@ fn put_value(area: &mut [u8], at: usize, value: &[u8], size: usize)
     ensures { λ _. ⌜ now (area .exit) ≡ pasted (now (area .entry)) at (encode (now (value .entry)) ++ 0x00 ∷ []) ⌝ }
 {
     let end = at + size;
-    values::encode(value, &mut area[at..end]);
+    encoding::encode(value, &mut area[at..end]);
     area[end] = 0;
 }
 
@@ -71,7 +71,7 @@ fn replace(
     ensures { λ r. ⌜ editReply r ≡ replaceReply (now (area .entry)) start rest used (pairBytes (canonicalPair (now (name .entry)) (now (value .entry)))) ⌝ }
     ensures { λ _. ⌜ now (area .exit) ≡ replaceArea (now (area .entry)) start rest used (pairBytes (canonicalPair (now (name .entry)) (now (value .entry)))) ⌝ }
 {
-    let size = values::encoded_len(value);
+    let size = encoding::encoded_len(value);
     let room = area.len() - 1 - (used - rest) - start;
     if room < size {
         return Edited::Refused(Error::NoRoom); // the value alone exceeds the room

@@ -21,7 +21,7 @@ fn normalize_pair(area: &mut [u8], at: usize, equals: usize, end: usize, to: usi
 {
     let n = equals + 1 - at;
     lists::move_bytes(area, at, to, n);
-    match values::recode(area, equals + 1, end, to + n) {
+    match encoding::recode(area, equals + 1, end, to + n) {
         Written::Length(m) => {
             let past = to + n + m;
             area[past] = 0;

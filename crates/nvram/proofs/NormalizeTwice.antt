@@ -16,8 +16,7 @@ use Rattle.partitions.specs.declared.Found.the-variants.{At}
 use Rattle.partitions.specs.Find.{findOf, areaOf}
 use Rattle.values.specs.Value.{run, runByte, decode, spelled, runBytes, escaped, encodeFrom, encode}
 use Rattle.values.proofs.DecodeLaws.{length-run, decode-none, decode-plain, decode-escape, plain-spelled, escape-spelled, cut-spelled}
-use Rattle.values.proofs.EncodeLaws.{cost, length-run-bytes, encode-none, encode-plain}
-use Rattle.values.proofs.RecodeLaws.{run-same, run-other}
+use Rattle.values.proofs.EncodeLaws.{cost, length-run-bytes, encode-none, encode-plain, run-same, run-other}
 use Rattle.pairs.specs.Area.{Pair, pairsBytes, parsed, faulty, parse}
 use Rattle.variables.specs.Edits.{areaOf as written, canonicalPair, normalizePairs}
 use Rattle.variables.specs.Calls.{normalize, wellNamed, Outcome, callPairs, callArea}

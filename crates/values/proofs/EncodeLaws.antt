@@ -7,14 +7,14 @@ use mathlib.Core.Logic.{_≢_, _⊎_, inl, inr}
 use native.Mathlib.Omega.{arith}
 use native.Mathlib.Nat.{add-zero}
 use lib.ListN.{length, replicate, length-append}
-use lib.Dec.{eqb}
-use borrow.Author.Tests.{eqb-true, eqb-false, eq-eqb, ne-eqb}
+use lib.Dec.{eqb, ltb}
+use borrow.Author.Tests.{eqb-true, eqb-false, eq-eqb, ne-eqb, ltb-true, ltb-false}
 use Rattle.lists.specs.Bytes.{Every, AllBytes}
 use Rattle.lists.proofs.Tests.{split, clash}
-use Rattle.values.specs.Value.{run, decode, spelled, mark, fullEscapes, restEscape, runBytes, escaped, encodeFrom, encode}
+use Rattle.values.specs.Value.{runByte, run, decode, spelled, mark, fullEscapes, restEscape, runBytes, escaped, encodeFrom, encode}
 use Rattle.values.specs.Rules.{Spells, nothing, itself, zeros, ones}
 use Rattle.lists.proofs.ListLaws.{replicate-two, replicate-snoc, every-append}
-use Rattle.values.proofs.DecodeLaws.{decode-none, decode-plain, decode-escape, run-zeros, run-ones, spelled-plain, spelled-escape, empty-spelled, spells-exactly, spelled-no-zero}
+use Rattle.values.proofs.DecodeLaws.{run-low, run-high, decode-none, decode-plain, decode-escape, run-zeros, run-ones, spelled-plain, spelled-escape, empty-spelled, spells-exactly, spelled-no-zero}
 
 -- ---- a byte that is escaped
 
@@ -263,6 +263,23 @@ encode-run b n r (suc m) t e h z =
     let q : 1 + m ≡ suc m = omega arith in
     encode-other b n r (replicate m r ++ t) e h
     ∙ ap (λ (w : List ℕ). runBytes b n ++ w) (encode-same r 1 m t e ∙ ap (λ (k : ℕ). encodeFrom r k t) q)
+
+-- and the run that an escape stands for
+pub run-escaped : (c : ℕ) → escaped (runByte c) ≡ true
+run-escaped c =
+    split (ltb c 128)
+    (λ t. ap escaped (sym (run-low c (ltb-true c 128 t))))
+    (λ t. ap escaped (sym (run-high c (ltb-false c 128 t))))
+
+pub run-same : (b n c : ℕ) (l : List ℕ) → runByte c ≡ b → encodeFrom b n (run c ++ l) ≡ encodeFrom b (n + c % 128) l
+unfolding run
+run-same b n c l e =
+    ap (λ (y : ℕ). encodeFrom b n (replicate (c % 128) y ++ l)) e ∙ encode-same b n (c % 128) l (ap escaped (sym e) ∙ run-escaped c)
+
+pub run-other : (b n c : ℕ) (l : List ℕ) → runByte c ≢ b → c % 128 ≢ 0
+    → encodeFrom b n (run c ++ l) ≡ runBytes b n ++ encodeFrom (runByte c) (c % 128) l
+unfolding run
+run-other b n c l e z = encode-run b n (runByte c) (c % 128) l (run-escaped c) e z
 
 run-least : (b n r m k : ℕ) (t : List ℕ) → escaped r ≡ true → m ≢ 0 → m < 128
     → ((b n : ℕ) → length (encodeFrom b n t) ≤ cost n + k)

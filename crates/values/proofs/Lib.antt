@@ -2,8 +2,6 @@ pub mod DecodeLaws
 pub mod EncodeLaws
 pub mod CanonicalLaws
 pub mod WrittenLaws
-pub mod RecodeLaws
+pub mod PartLaws
 pub mod DecodeTurns
-pub mod EncodeTurns
-pub mod RecodeTurns
 pub mod StopLaws

@@ -78,11 +78,6 @@ runBytes b n = fullEscapes b (n / 127) ++ restEscape b (n % 127)
 abbrev pub escaped : ℕ → Bool
 escaped x = eqb x 0x00 || eqb x 0xFF
 
--- how many bytes at the start are b
-unfoldable pub leading : ℕ → List ℕ → ℕ
-leading b [] = 0
-leading b (x ∷ xs) = pickNumber (eqb x b) (suc (leading b xs)) 0
-
 -- b: the byte of the run that is open, n: its length so far, 0 if none is open
 unfoldable pub encodeFrom : ℕ → ℕ → List ℕ → List ℕ
 encodeFrom b n [] = runBytes b n

@@ -5,7 +5,7 @@ use denote.Ref.{now}
 use Rattle.lists.specs.Pasted.{pasted}
 use Rattle.lists.proofs.PastedLaws.{pasted-none}
 use Rattle.lists.proofs.FindLaws.{either-ahead, either-inside}
-use Rattle.values.proofs.RecodeLaws.{part-none}
+use Rattle.values.proofs.PartLaws.{part-none}
 use borrow.Author.Needs.{needs}
 use Rattle.values.proofs.copy_long.Statement.{statement}
 use Rattle.values.proofs.copy_long.Tie as tie

@@ -4,6 +4,7 @@ use mathlib.Core.Logic.{⊎-elim}
 use native.Mathlib.Omega.{arith}
 use lib.ListN.{length}
 use Rattle.lists.proofs.FindLaws.{plain-inside}
+use Rattle.values.proofs.StopLaws.{next-inside, next-cases}
 use Rattle.values.proofs.DecodeTurns.{Decoding, decoding-none, decoding-same, piece-room, piece-turn, rest-fits, passed-turn, decoding-all}
 use borrow.Author.Needs.{needs}
 use Rattle.values.proofs.decode_to.Statement.{statement}
@@ -32,17 +33,14 @@ add-o c =
     omega (arith, rest-fits p, decoding-same p)
 
 next-stop-requires : tie.Need-next-stop-requires Inv-loop μ-loop
-next-stop-requires c κs =
-    let l = c .before .before .before .before .before in
-    let k = c .before .before .copy-long .ensures in
-    plain-inside (l .before .before .before .args .stored .now) (l .loop .i) 255 255 (k .0 .0) (k .0 .1) (search needs)
+next-stop-requires c κs = search needs
 
 decode-few-requires : tie.Need-decode-few-requires Inv-loop μ-loop
 decode-few-requires c κs =
     let l = c .before .before .before .before .before .before .before in
     let k = c .before .before .before .before .copy-long .ensures in
     let p = piece-turn (l .loop .inv .1) (search needs) (k .0 .0) (k .0 .1) (k .1) in
-    ((plain-inside (l .before .before .before .args .stored .now) (l .loop .i) 255 255 (k .0 .0) (k .0 .1) (search needs), c .before .next-stop .ensures .0), rest-fits p)
+    ((plain-inside (l .before .before .before .args .stored .now) (l .loop .i) 255 255 (k .0 .0) (k .0 .1) (search needs), next-inside _ _ (c .before .next-stop .ensures)), rest-fits p)
 
 loop-less : tie.Need-loop-less Inv-loop μ-loop
 loop-less c =
@@ -50,7 +48,7 @@ loop-less c =
     let k = c .before .before .before .before .before .before .before .copy-long .ensures in
     let a = k .0 .0 in
     let h = c .before .before .decode-few .ensures .0 in
-    ⊎-elim (λ w. omega arith) (λ w. omega arith) (c .before .before .before .before .next-stop .ensures .1)
+    ⊎-elim (λ w. omega arith) (λ w. omega arith) (next-cases _ _ (c .before .before .before .before .next-stop .ensures))
 
 loop-again : tie.Need-loop-again Inv-loop μ-loop
 loop-again c =

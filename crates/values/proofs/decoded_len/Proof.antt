@@ -3,7 +3,7 @@ use Prim.Native.Nat.{_≤_}
 use native.Mathlib.Omega.{arith}
 use lib.ListN.{length}
 use Rattle.lists.proofs.FindLaws.{either-ahead, either-inside}
-use Rattle.values.proofs.StopLaws.{toGo, stop-less}
+use Rattle.values.proofs.StopLaws.{first-inside, next-inside, next-cases, toGo, stop-less}
 use Rattle.values.proofs.DecodeTurns.{Measured, measured-none, measured-run, measured-long, measured-stop, measured-one, measured-full, measured-piece, measured-wide, measured-all}
 use borrow.Author.Needs.{needs}
 use Rattle.values.proofs.decoded_len.Statement.{statement}
@@ -19,7 +19,7 @@ first-stop-requires : tie.Need-first-stop-requires Inv-loop μ-loop
 first-stop-requires c κs = search needs
 
 loop-holds : tie.Need-loop-holds Inv-loop μ-loop
-loop-holds c = (search needs, search needs, measured-none _ _)
+loop-holds c = (search needs, first-inside _ (c .first-stop .ensures), measured-none _ _)
 
 returns : tie.Need-returns Inv-loop μ-loop
 returns c = measured-all (c .before .before .loop .inv .2) (search needs)
@@ -47,9 +47,7 @@ add-n : tie.Need-add-n Inv-loop μ-loop
 add-n c = search needs
 
 next-stop-requires : tie.Need-next-stop-requires Inv-loop μ-loop
-next-stop-requires c κs =
-    let l = c .before .before .before .before in
-    either-inside (l .before .before .before .args .stored .now) (l .loop .i) 255 255 (c .before .find-either .ensures) (search needs)
+next-stop-requires c κs = search needs
 
 loop-less : tie.Need-loop-less Inv-loop μ-loop
 loop-less c =
@@ -58,14 +56,14 @@ loop-less c =
     let q = c .before .before .find-either .ensures in
     let a = either-ahead s (l .loop .i) 255 255 q in
     let b = either-inside s (l .loop .i) 255 255 q (search needs) in
-    stop-less (length s) (l .loop .i) (l .loop .stop) _ _ (search needs) (search needs) a b (c .next-stop .ensures .1)
+    stop-less (length s) (l .loop .i) (l .loop .stop) _ _ (search needs) (search needs) a b (next-cases _ _ (c .next-stop .ensures))
 
 loop-again : tie.Need-loop-again Inv-loop μ-loop
 loop-again c =
     let l = c .before .before .before .before .before in
     let q = c .before .before .find-either .ensures in (
       either-inside (l .before .before .before .args .stored .now) (l .loop .i) 255 255 q (search needs),
-      c .next-stop .ensures .0,
+      next-inside _ _ (c .next-stop .ensures),
       measured-piece (l .loop .inv .2) (search needs) q (search needs),
     )
 

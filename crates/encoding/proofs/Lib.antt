@@ -1,0 +1,4 @@
+pub mod RecodeLaws
+pub mod SpellingTurns
+pub mod EncodeTurns
+pub mod RecodeTurns
