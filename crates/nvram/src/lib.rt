@@ -2,7 +2,6 @@
 use header::Error;
 use header::Header;
 use names::NameCheck;
-use partitions::Checked;
 use partitions::Found;
 use variables::Counted;
 use variables::Edited;
@@ -10,8 +9,7 @@ use variables::ReadAnswer;
 ghost use mathlib.Core.Path.{_≡_};
 ghost use Prim.Native.Nat.{_+_, _<_, _^_};
 ghost use Rattle.header.specs.Errors.{offsetOf};
-ghost use Rattle.partitions.specs.Find.{checkOf, indexOf, findOf, areaOf};
-ghost use Rattle.partitions.specs.Answers.{findAnswer};
+ghost use Rattle.partitions.specs.Find.{findOf};
 ghost use Rattle.variables.specs.Calls as Calls;
 ghost use mathlib.Core.List.{[]};
 ghost use Rattle.names.specs.Name.{goodName};
@@ -20,6 +18,18 @@ ghost use Rattle.nvram.specs.Table.{common};
 ghost use Rattle.nvram.specs.Calls.{moved, areaSpan, countAnswer, readAnswer, editAnswer, replyOffset, nameFirst, callImage};
 ghost use Rattle.nvram.specs.Calls.{answer as answerAt};
 
+// Checks an image: the number of partitions that cover it, or why it is refused.
+pub use partitions::check;
+
+// The partition of an index from 0, in image order.
+pub use partitions::by_index as partition;
+
+// The first partition of this signature and name.
+pub use lookup::find;
+
+// Its data area as a part of the image, empty where it is refused; the code and the offset are stored.
+pub use lookup::area;
+
 // The signature of the partition that holds the variables.
 const SIGNATURE: u8 = 0x70;
 
@@ -27,42 +37,6 @@ const SIGNATURE: u8 = 0x70;
 enum Span {
     At { start: usize, end: usize },
     Refused(Error),
-}
-
-// Checks an image: the number of partitions that cover it, or why it is refused.
-pub fn check(image: &[u8]) -> Checked
-    ensures { λ r. ⌜ r ≡ checkOf (now (image .entry)) ⌝ }
-{
-    partitions::check(image)
-}
-
-// The partition of an index from 0, in image order.
-pub fn partition(image: &[u8], index: usize) -> Found
-    ensures { λ r. ⌜ r ≡ indexOf (now (image .entry)) index ⌝ }
-{
-    partitions::by_index(image, index)
-}
-
-// The first partition of this signature and name.
-pub fn find(image: &[u8], signature: u8, name: &[u8]) -> Found
-    ensures { λ r. ⌜ r ≡ findOf (now (image .entry)) signature (now (name .entry)) ⌝ }
-{
-    lookup::find(image, signature, name)
-}
-
-// Its data area as a part of the image, empty where it is refused; the code and the offset are stored.
-pub fn area<'a>(
-    image: &'a [u8],
-    signature: u8,
-    name: &[u8],
-    code: &mut u32,
-    offset: &mut usize,
-) -> &'a [u8]
-    ensures part { λ r. ⌜ now r ≡ areaOf (now (image .entry)) (findOf (now (image .entry)) signature (now (name .entry))) ⌝ }
-    ensures stored { λ r. ⌜ now (code .exit) ≡ findAnswer (findOf (now (image .entry)) signature (now (name .entry))) .code ⌝ }
-    ensures place { λ r. ⌜ now (offset .exit) ≡ findAnswer (findOf (now (image .entry)) signature (now (name .entry))) .offset ⌝ }
-{
-    lookup::area(image, signature, name, code, offset)
 }
 
 // Where the variable area stands: in the first partition `common`.

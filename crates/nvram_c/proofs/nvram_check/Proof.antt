@@ -5,7 +5,7 @@ use Rattle.nvram_c.proofs.nvram_check.Statement.{statement}
 use Rattle.nvram_c.proofs.nvram_check.Tie as tie
 use Rattle.nvram_c.proofs.nvram_check.Reads as reads
 use Rattle.nvram_c.proofs.nvram_check.Lts as lts
-use Rattle.nvram.proofs.check.Reads as check-reads
+use Rattle.partitions.proofs.check.Reads as check-reads
 use Rattle.partitions.proofs.Checked.answer.Reads as answer-reads
 
 check-requires : tie.Need-check-requires

@@ -5,11 +5,11 @@ use Rattle.nvram_c.proofs.nvram_partition.Statement.{statement}
 use Rattle.nvram_c.proofs.nvram_partition.Tie as tie
 use Rattle.nvram_c.proofs.nvram_partition.Reads as reads
 use Rattle.nvram_c.proofs.nvram_partition.Lts as lts
-use Rattle.nvram.proofs.partition.Reads as partition-reads
+use Rattle.partitions.proofs.by_index.Reads as by-index-reads
 use Rattle.partitions.proofs.Found.answer.Reads as answer-reads
 
-partition-requires : tie.Need-partition-requires
-partition-requires c κs = search needs
+by-index-requires : tie.Need-by-index-requires
+by-index-requires c κs = search needs
 
 answer-requires : tie.Need-answer-requires
 answer-requires c κs = search needs
@@ -19,8 +19,8 @@ cast-blocks c = search needs
 
 returns : tie.Need-returns
 returns c =
-    let e = c .before .answer .ensures ∙ ap findAnswer (c .before .before .partition .ensures) in
+    let e = c .before .answer .ensures ∙ ap findAnswer (c .before .before .by-index .ensures) in
     (λ i. e i .code, (λ i. e i .offset, (λ i. e i .header, (λ i. e i .blocks, λ i. e i .signature))))
 
 pub nvram-partition-spec : {M : Type 1} → statement M
-nvram-partition-spec = tie.close (tie.spec partition-requires answer-requires cast-blocks returns)
+nvram-partition-spec = tie.close (tie.spec by-index-requires answer-requires cast-blocks returns)
