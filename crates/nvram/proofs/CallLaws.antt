@@ -11,12 +11,12 @@ use Rattle.partitions.specs.declared.Partition.{Partition}
 use Rattle.partitions.specs.declared.Found.{Found}
 use Rattle.partitions.specs.declared.Found.the-variants.{At, Refused}
 use Rattle.partitions.specs.Find.{findOf, areaOf}
-use Rattle.pairs.specs.Area.{Pair, Parse, parsed, faulty, parse}
-use Rattle.variables.specs.Calls.{Call, lent, wellNamed, Outcome, refuse, callPairs, callArea}
+use Rattle.pairs.specs.Area.{Pair, Parse, parsed, faulty}
+use Rattle.variables.specs.Calls.{Call, lent, wellNamed, Outcome, callArea}
 use Rattle.nvram.specs.Calls.{moved, refusal, answer, Result, callFound, callImage}
-use Rattle.nvram.proofs.AreaInImage.{area-back}
+use Rattle.nvram.proofs.AreaBack.{area-back}
 use Rattle.variables.proofs.CallPlaces.{call-misnamed}
-use Rattle.nvram.specs.Table.{common}
+use Rattle.nvram.specs.Common.{common}
 
 -- case splits that keep the equation
 pub splitFound : {A : Type 0} (f : Found) → ((p : Partition) → f ≡ At p → A) → ((e : Error) → f ≡ Refused e → A) → A

@@ -1,13 +1,12 @@
 -- What the code of each call answers and leaves is what `callImage` says.
-use Prim.Native.Nat.{ℕ, _+_, _-_, _*_, _≤_, _<_}
-use mathlib.Core.Path.{_≡_, refl, sym, ap, subst, _∙_}
+use Prim.Native.Nat.{ℕ, _+_, _-_, _≤_}
+use mathlib.Core.Path.{_≡_, refl, sym, ap, _∙_}
 use mathlib.Core.Bool.{Bool, true, false}
-use mathlib.Core.List.{List, [], _∷_, _++_}
+use mathlib.Core.List.{List, []}
 use native.Mathlib.Omega.{arith}
 use lib.ListN.{length, take, drop, length-take}
 use lib.Dec.{ltb}
 use borrow.Rule.Slice.PartMut.{putMid}
-use Rattle.lists.specs.Bytes.{AllBytes}
 use Rattle.lists.specs.Pasted.{pasted}
 use Rattle.lists.proofs.Tests.{split, clash}
 use Rattle.lists.proofs.PastedLaws.{part-pasted}
@@ -26,7 +25,7 @@ use Rattle.nvram.specs.declared.Span.the-variants as Span
 use Rattle.pairs.specs.Area.{Pair, pairsBytes, parse}
 use Rattle.variables.specs.Edits.{setPair, Lookup, found, missing, lookup}
 use Rattle.variables.specs.Edits as Edits
-use Rattle.variables.specs.Calls.{Call, set, remove, normalize, read, count, lent, wellNamed, Reply, done, refused, Outcome, refuse, edited, pickOutcome, setIn, removeBy, readBy, callPairs, callArea}
+use Rattle.variables.specs.Calls.{Call, set, remove, normalize, read, count, lent, wellNamed, Reply, done, Outcome, refuse, edited, pickOutcome, setIn, removeBy, readBy, callPairs, callArea}
 use Rattle.variables.specs.declared.Counted.{Counted}
 use Rattle.variables.specs.declared.Counted.the-variants as Counted
 use Rattle.variables.specs.declared.ReadAnswer.{ReadAnswer}
@@ -41,7 +40,7 @@ use Rattle.variables.proofs.CallPlaces.{good-told, wrong-told, call-misnamed, c
 use Rattle.pairs.proofs.FaultLaws.{fault-inside}
 use Rattle.nvram.specs.Calls.{moved, refusal, answer, Result, callImage, areaSpan, countAnswer, readAnswer, editAnswer, replyOffset, nameFirst}
 use Rattle.nvram.proofs.CallLaws.{splitFound, splitParse, image-ill-named, image-refused, call-image, image-unfound}
-use Rattle.nvram.specs.Table.{common}
+use Rattle.nvram.specs.Common.{common}
 
 -- the span of the partition that was found
 module _ (I : List ℕ) (signature : ℕ) (name : List ℕ) (f : Found) (ef : f ≡ findOf I signature name) where

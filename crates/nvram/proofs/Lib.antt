@@ -1,16 +1,3 @@
-pub mod AreaInImage
+pub mod AreaBack
 pub mod CallLaws
-pub mod ReadKeeps
-pub mod ModelLaws
-pub mod Refinement
-pub mod Demand2Laws
-pub mod NormalizeTwice
-pub mod TableImage
-pub mod TablePlaces
-pub mod TableSeen
-pub mod TableCalls
-pub mod TableRows
-pub mod TableLaws
-pub mod DemandsLaws
 pub mod CodeLaws
-pub mod OnExample

@@ -1,7 +1,7 @@
 -- Every call on an image: what it answers, and the image afterwards.
 use Prim.Native.Nat.{ℕ, _+_}
 use mathlib.Core.Bool.{Bool, true, false}
-use mathlib.Core.List.{List, [], _∷_}
+use mathlib.Core.List.{List, []}
 use Rattle.lists.specs.Pasted.{pasted}
 use Rattle.header.specs.declared.Error.{Error}
 use Rattle.header.specs.declared.Error.the-variants.{
@@ -34,7 +34,7 @@ use Rattle.variables.specs.declared.Edited.the-variants as Edited
 use Rattle.nvram.specs.declared.Span.{Span}
 use Rattle.nvram.specs.declared.Span.the-variants as Span
 use Rattle.variables.specs.Calls.{Call, lent, wellNamed, Reply, done, refused, Outcome, callArea}
-use Rattle.nvram.specs.Table.{common}
+use Rattle.nvram.specs.Common.{common}
 
 -- what the caller sees of a call on variables: code, offset, a length or count, and the buffer afterwards
 pub record Answer : Type 0 where
@@ -89,18 +89,6 @@ unfoldable pub callImage : Call → List ℕ → Result
 callImage call image =
     pickResult (wellNamed call) (callFound call image (findOf image 0x70 common))
     (record { told = refusal BadName (lent call); image = image })
-
--- a list of calls: each gets the image as the last one left it
-pub record Results : Type 0 where
-  pub answers : List Answer
-  pub image : List ℕ
-
-unfoldable pub runImage : List Call → List ℕ → Results
-runImage [] image = record { answers = []; image = image }
-runImage (call ∷ calls) image =
-    let r : Result = callImage call image in
-    let rs : Results = runImage calls (r .image) in
-    record { answers = r .told ∷ rs .answers; image = rs .image }
 
 -- ---- the code's answers
 

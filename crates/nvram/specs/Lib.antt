@@ -1,5 +1,2 @@
+pub mod Common
 pub mod Calls
-pub mod Model
-pub mod Table
-pub mod Demands
-pub mod Examples

@@ -14,7 +14,7 @@ ghost use Rattle.variables.specs.Calls as Calls;
 ghost use mathlib.Core.List.{[]};
 ghost use Rattle.names.specs.Name.{goodName};
 ghost use Rattle.variables.specs.EditPlaces.{editReply};
-ghost use Rattle.nvram.specs.Table.{common};
+ghost use Rattle.nvram.specs.Common.{common};
 ghost use Rattle.nvram.specs.Calls.{moved, areaSpan, countAnswer, readAnswer, editAnswer, replyOffset, nameFirst, callImage};
 ghost use Rattle.nvram.specs.Calls.{answer as answerAt};
 

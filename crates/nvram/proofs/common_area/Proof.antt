@@ -7,7 +7,7 @@ use Rattle.nvram.proofs.CodeLaws.{span-found, span-refused}
 use borrow.Author.Needs.{needs}
 use Rattle.nvram.proofs.common_area.Statement.{statement}
 use Rattle.nvram.proofs.common_area.Tie as tie
-use Rattle.nvram.specs.Table.{common}
+use Rattle.nvram.specs.Common.{common}
 
 -- the partition that was found stands in the image
 inside : (b : tie.After-bytes) → (16 ≤ b .bytes .result .0)

@@ -2,11 +2,11 @@
 use Prim.Native.Nat.{ℕ, zero, suc, _+_, _-_, _*_, _≤_, _<_}
 use mathlib.Core.Path.{_≡_, refl, sym, ap, _∙_}
 use mathlib.Core.Bool.{true, false}
-use mathlib.Core.List.{List, [], _∷_, _++_, append-assoc}
+use mathlib.Core.List.{List, [], _∷_, _++_}
 use native.Mathlib.Omega.{arith}
-use lib.ListN.{length, take, drop, take-append-drop}
+use lib.ListN.{length, take, drop}
 use lib.Dec.{leb}
-use lib.Seq.{drop-drop, take-at}
+use lib.Seq.{take-at}
 use Rattle.lists.specs.Bytes.{AllBytes}
 use Rattle.lists.specs.Pasted.{pasted}
 use Rattle.lists.proofs.Tests.{split, clash}
@@ -29,8 +29,9 @@ use Rattle.partitions.specs.Walk.{partitionOf, pastOf, pickStep, stepAt, Walk, 
 use Rattle.partitions.specs.Find.{checkedBy, checkOf, indexBy, indexOf, matches, pickFound, firstMatch, findBy, findOf, areaOf}
 use Rattle.partitions.specs.Cover.{FirstNamed, areaAt}
 use Rattle.partitions.proofs.WalkLaws.{View, ends, goes, breaks, view, past-bounds}
-use Rattle.partitions.proofs.AreaLaws.{found-inside, area-length}
+use Rattle.partitions.proofs.AreaLaws.{found-inside}
 use Rattle.partitions.proofs.FoundLaws.{find-first}
+use Rattle.nvram.proofs.AreaBack.{area-long}
 
 -- ---- two images as long with the same headers
 
@@ -228,29 +229,13 @@ module _ (I : List ℕ) (signature : ℕ) (name : List ℕ) (p : Partition) (e :
   unfolding areaOf areaAt
   found-area = ap (λ (n : ℕ). take (n * 16 - 16) (drop (p .offset + 16) I)) found-blocks
 
-  pub area-long : length (areaOf I (At p)) ≡ p .blocks .0 * 16 - 16
-  area-long = area-length I p (found-inside I signature name p e) ∙ omega arith
-
-  -- an area put back as it was
-  pub area-back : pasted I (p .offset + 16) (areaOf I (At p)) ≡ I
-  unfolding pasted areaOf
-  area-back =
-      let n : ℕ = p .offset + 16 in
-      let k : ℕ = p .blocks .0 * 16 - 16 in
-      let l : length (take k (drop n I)) ≡ k = area-long in
-      ap (λ (m : ℕ). take n I ++ take k (drop n I) ++ drop (n + m) I) l
-      ∙ ap (λ (z : List ℕ). take n I ++ take k (drop n I) ++ z) (sym (drop-drop k n I))
-      ∙ append-assoc (take n I) (take k (drop n I)) (drop k (drop n I))
-      ∙ ap (λ (z : List ℕ). take n I ++ z) (take-append-drop k (drop n I))
-      ∙ take-append-drop n I
-
   -- another area as long in its place
   module _ (area : List ℕ) (k : length area ≡ length (areaOf I (At p))) where
     room : p .offset + 16 + length area ≤ length I
-    room = omega (arith, fits, area-long)
+    room = omega (arith, fits, area-long I signature name p e)
 
     ending : p .offset + 16 + length area ≡ p .offset + p .blocks .0 * 16
-    ending = omega (arith, fits, area-long)
+    ending = omega (arith, fits, area-long I signature name p e)
 
     pub image-long : length (pasted I (p .offset + 16) area) ≡ length I
     image-long = length-pasted I (p .offset + 16) area room
@@ -306,7 +291,7 @@ module _ (I : List ℕ) (signature : ℕ) (name : List ℕ) (p : Partition) (e :
     unfolding areaOf
     area-new =
         ap (take (p .blocks .0 * 16 - 16)) (drop-pasted-at I (p .offset + 16) area room)
-        ∙ take-at area (drop (p .offset + 16 + length area) I) (p .blocks .0 * 16 - 16) (k ∙ area-long)
+        ∙ take-at area (drop (p .offset + 16 + length area) I) (p .blocks .0 * 16 - 16) (k ∙ area-long I signature name p e)
 
     pub area-at-new : areaAt (pasted I (p .offset + 16) area) (p .offset) ≡ area
     unfolding areaAt areaOf

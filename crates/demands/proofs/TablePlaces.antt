@@ -13,8 +13,8 @@ use Rattle.partitions.specs.declared.Found.the-variants.{At}
 use Rattle.partitions.specs.Find.{findOf, areaOf}
 use Rattle.partitions.specs.Cover.{areaAt}
 use Rattle.partitions.proofs.AreaLaws.{found-inside}
-use Rattle.nvram.specs.Table.{AreaBecomes, Holding}
-use Rattle.nvram.proofs.AreaInImage.{found-blocks, image-long, area-at-new, before-kept, after-kept}
+use Rattle.demands.specs.Table.{AreaBecomes, Holding}
+use Rattle.demands.proofs.AreaInImage.{found-blocks, image-long, area-at-new, before-kept, after-kept}
 
 -- a header is read from the sixteen bytes at its offset
 blocks-same : (I J : List ℕ) (a : ℕ) → take (a + 16) J ≡ take (a + 16) I → blocksAt J a ≡ blocksAt I a

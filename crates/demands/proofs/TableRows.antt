@@ -28,13 +28,16 @@ use Rattle.pairs.proofs.EntryLaws.{entriesOf, parse-exactly}
 use Rattle.variables.proofs.LookupLaws.{found-exactly, missing-exactly, set-size-exactly}
 use Rattle.variables.proofs.LeavesLaws.{set-leaves-exactly, remove-leaves-exactly, normalize-leaves-exactly}
 use Rattle.pairs.proofs.FaultLaws.{faulty-exactly}
 use Rattle.nvram.specs.Calls.{moved}
-use Rattle.nvram.specs.Table.{Request, variable, check, partition, find, area, common, Seen, refuses, answers, WellNamed, by-set, by-remove, AtPair, Answers}
-use Rattle.nvram.specs.Demands.{seen, CallBytes, RequestBytes}
-use Rattle.nvram.proofs.ModelLaws.{count-entries}
-use Rattle.nvram.proofs.TableImage.{named-well, eleven-row, ill-named-seen, refused-call, missed-row, missed-common, check-row, partition-row, find-row, area-row}
-use Rattle.nvram.proofs.TablePlaces.{pasted-holding}
-use Rattle.nvram.proofs.TableSeen.{CommonAt, seenOutcome, common-bytes, edit-becomes, call-seen, refuse-seen, answer-seen, set-short, set-done, remove-missing, remove-found, read-missing, read-short, read-done, normalize-done, count-done}
+use Rattle.nvram.specs.Common.{common}
+use Rattle.demands.specs.Requests.{Request, variable, check, partition, find, area, Seen, refuses, answers}
+use Rattle.demands.specs.Table.{WellNamed, by-set, by-remove, AtPair, Answers}
+use Rattle.demands.specs.Library.{seen}
+use Rattle.demands.specs.Demands.{CallBytes, RequestBytes}
+use Rattle.demands.proofs.ModelLaws.{count-entries}
+use Rattle.demands.proofs.TableImage.{named-well, eleven-row, ill-named-seen, refused-call, missed-row, missed-common, check-row, partition-row, find-row, area-row}
+use Rattle.demands.proofs.TablePlaces.{pasted-holding}
+use Rattle.demands.proofs.TableSeen.{CommonAt, seenOutcome, common-bytes, edit-becomes, call-seen, refuse-seen, answer-seen, set-short, set-done, remove-missing, remove-found, read-missing, read-short, read-done, normalize-done, count-done}
 
 same-row : {r : Request} {I : List ℕ} {s t : Seen} → s ≡ t → Answers I r t → Answers I r s
 same-row {r} {I} e x = subst (λ (s : Seen). Answers I r s) (sym e) x

@@ -19,13 +19,16 @@ use Rattle.pairs.specs.Rules.{Entry}
 use Rattle.pairs.specs.Area.{Pair, pairsBytes, parse}
 use Rattle.variables.specs.Edits.{setPair, removePair, normalizePairs, found, missing, lookup}
 use Rattle.variables.specs.Calls.{Call, set, remove, normalize, read, count, wellNamed, done, Outcome, refuse, edited, setIn, callPairs, callBy, callArea}
 use Rattle.nvram.specs.Calls.{answer, refusal, moved}
-use Rattle.nvram.specs.Table.{variable, Seen, refuses, answers, common, AtPair, AreaBecomes}
-use Rattle.nvram.specs.Demands.{seen}
-use Rattle.nvram.proofs.AreaInImage.{found-area, area-back, area-bytes}
+use Rattle.nvram.specs.Common.{common}
+use Rattle.demands.specs.Requests.{variable, Seen, refuses, answers}
+use Rattle.demands.specs.Table.{AtPair, AreaBecomes}
+use Rattle.demands.specs.Library.{seenCall, seen}
+use Rattle.demands.proofs.AreaInImage.{found-area, area-bytes}
+use Rattle.nvram.proofs.AreaBack.{area-back}
 use Rattle.nvram.proofs.CallLaws.{call-image}
-use Rattle.nvram.proofs.TableImage.{seenResult, lent-same}
-use Rattle.nvram.proofs.TablePlaces.{pasted-becomes, becomes-pasted}
+use Rattle.demands.proofs.TableImage.{lent-same}
+use Rattle.demands.proofs.TablePlaces.{pasted-becomes, becomes-pasted}
 
 -- `common` stands at an offset
 pub record CommonAt (I : List ℕ) (a : ℕ) : Type 0 where
@@ -39,7 +42,7 @@ pair-common {I} bytes h =
 
 -- an outcome in the area, as it is seen
 abbrev pub seenOutcome : List ℕ → ℕ → Outcome → Seen
-seenOutcome I a o = seenResult (record { told = answer (a + 16) (o .reply) (o .buffer); image = pasted I (a + 16) (o .area) })
+seenOutcome I a o = seenCall (record { told = answer (a + 16) (o .reply) (o .buffer); image = pasted I (a + 16) (o .area) })
 
 module _ (I : List ℕ) (a : ℕ) (w : CommonAt I a) where
   area-here : areaOf I (At (w .partition)) ≡ areaAt I a
@@ -63,7 +66,7 @@ module _ (I : List ℕ) (a : ℕ) (w : CommonAt I a) where
     pub call-seen : seen (variable call) I ≡ seenOutcome I a (callBy (parse (areaAt I a)) call (areaAt I a))
     unfolding callArea
     call-seen =
-        ap seenResult (call-image call I (w .partition) (w .found))
+        ap seenCall (call-image call I (w .partition) (w .found))
         ∙ (λ i. seenOutcome I (w .stands i) (callArea call (area-here i)))
         ∙ ap (seenOutcome I a) inside
       where
@@ -74,7 +77,7 @@ module _ (I : List ℕ) (a : ℕ) (w : CommonAt I a) where
   pub refuse-seen : (call : Call) (e : Error)
       → seenOutcome I a (refuse e call (areaAt I a)) ≡ refuses (variable call) I (codeOf (moved (a + 16) e)) (offsetOf (moved (a + 16) e))
   refuse-seen call e =
-      λ i. seenResult (record { told = refusal (moved (a + 16) e) (lent-same call i); image = area-kept i })
+      λ i. seenCall (record { told = refusal (moved (a + 16) e) (lent-same call i); image = area-kept i })
 
   -- an answer that leaves the area
   pub answer-seen : (amount : ℕ) (buffer : List ℕ)

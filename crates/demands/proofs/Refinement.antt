@@ -30,13 +30,15 @@ use Rattle.variables.specs.Calls.{Call, set, remove, normalize, read, count, we
 use Rattle.pairs.proofs.ParseLaws.{Good, area-read, read-room, bytes-read}
 use Rattle.variables.proofs.EditLaws.{length-area, parse-area, set-first, set-next, remove-first, remove-next, good-set, good-remove, good-normalize, remove-room, bytes-set, bytes-remove, bytes-normalize, bytes-area, normalize-room, normalize-twice}
 use Rattle.pairs.proofs.EntryLaws.{entriesOf, parse-exactly}
-use Rattle.nvram.specs.Calls.{Answer, moved, answer, Result, callImage, Results, runImage}
-use Rattle.nvram.specs.Model.{Model, total, setEntry, dropEntry, newSizes, Value, valueOf, Stepped, says, keeps, becomes, removeStep, readStep, step, Run, run, canonicalArea}
-use Rattle.nvram.specs.Table.{common}
-use Rattle.nvram.specs.Demands.{CallBytes, CallsBytes, Normalizes, Demand3}
-use Rattle.nvram.proofs.AreaInImage.{found-area, area-back, area-bytes, find-kept, area-new, area-at-new, edit-again, image-long, before-kept, after-kept, bytes-kept}
+use Rattle.nvram.specs.Calls.{Answer, moved, answer, callImage}
+use Rattle.demands.specs.Library.{Results, runImage}
+use Rattle.demands.specs.Model.{Model, total, setEntry, dropEntry, newSizes, Value, valueOf, Stepped, says, keeps, becomes, removeStep, readStep, step, Run, run, canonicalArea}
+use Rattle.nvram.specs.Common.{common}
+use Rattle.demands.specs.Demands.{CallBytes, CallsBytes, Normalizes, Demand3}
+use Rattle.demands.proofs.AreaInImage.{found-area, area-bytes, find-kept, area-new, area-at-new, edit-again, image-long, before-kept, after-kept, bytes-kept}
+use Rattle.nvram.proofs.AreaBack.{area-back}
 use Rattle.nvram.proofs.CallLaws.{lifted, call-image}
-use Rattle.nvram.proofs.ModelLaws.{entries-set, entries-remove, entries-normalize, valueFor, value-entries, count-entries, total-entries, canonical-area}
+use Rattle.demands.proofs.ModelLaws.{entries-set, entries-remove, entries-normalize, valueFor, value-entries, count-entries, total-entries, canonical-area}
 use Rattle.variables.proofs.CallPlaces.{call-misnamed, call-parsed}
 
 -- the model of an area that reads as these pairs
@@ -273,15 +275,8 @@ pub record Together (calls : List Call) (I : List ℕ) (p : Partition) (ps : Lis
   pub keeps : InForm (areaOf I (At p)) ps → InForm area pairs
   pub normal : Normalizes calls → InForm area pairs
 
-after-first : List Call → Result → Results
-after-first calls r = record { answers = r .told ∷ runImage calls (r .image) .answers; image = runImage calls (r .image) .image }
-
 after-step : List Call → Stepped → Run
 after-step calls s = record { answers = s .told ∷ run calls (s .model) .answers; model = run calls (s .model) .model }
-
-run-first : (call : Call) (calls : List Call) (I : List ℕ) → runImage (call ∷ calls) I ≡ after-first calls (callImage call I)
-unfolding runImage after-first
-run-first call calls I = refl
 
 run-step : (call : Call) (calls : List Call) (m : Model) → run (call ∷ calls) m ≡ after-step calls (step call m)
 unfolding run after-step
@@ -307,11 +302,11 @@ together-none I p ps e b r =
 together-more : (call : Call) (calls : List Call) (I : List ℕ) (p : Partition) (ps : List Pair) → findOf I 0x70 common ≡ At p
     → (o : Outcome) (s : Stepped) (a : Agree (p .offset + 16) call (areaOf I (At p)) ps o s)
     → Together calls (pasted I (p .offset + 16) (o .area)) p (a .pairs) (runImage calls (pasted I (p .offset + 16) (o .area))) (run calls (modelOf (o .area) (a .pairs)))
-    → Together (call ∷ calls) I p ps (after-first calls (lifted I p o)) (after-step calls s)
-unfolding after-first after-step
-together-more call calls I p ps e o s a t =
+    → callImage call I ≡ lifted I p o → Together (call ∷ calls) I p ps (runImage (call ∷ calls) I) (after-step calls s)
+unfolding runImage after-step
+together-more call calls I p ps e o s a t q =
     let w = area-new I 0x70 common p e (o .area) (a .long) in
-    rw (a .model)
+    rw (a .model, q)
     (record {
       area = t .area;
       pairs = t .pairs;
@@ -336,23 +331,23 @@ together-on : (call : Call) (calls : List Call) (I : List ℕ) (p : Partition) (
     → parse (areaOf (pasted I (p .offset + 16) (o .area)) (At p)) ≡ parsed (a .pairs)
     → Together calls (pasted I (p .offset + 16) (o .area)) p (a .pairs) (runImage calls (pasted I (p .offset + 16) (o .area)))
     (run calls (modelOf (areaOf (pasted I (p .offset + 16) (o .area)) (At p)) (a .pairs))))
-    → AllBytes I → Together (call ∷ calls) I p ps (after-first calls (lifted I p o)) (after-step calls s)
-together-on call calls I p ps e o s a ih b =
+    → AllBytes I → callImage call I ≡ lifted I p o → Together (call ∷ calls) I p ps (runImage (call ∷ calls) I) (after-step calls s)
+together-on call calls I p ps e o s a ih b c =
     let w = area-new I 0x70 common p e (o .area) (a .long) in
     together-more call calls I p ps e o s a
     (together-as refl (ap (λ (x : List ℕ). run calls (modelOf x (a .pairs))) (sym w))
-    (ih (find-kept I 0x70 common p e (o .area) (a .long)) (bytes-kept I 0x70 common p e (o .area) (a .long) b (a .bytes)) (ap parse w ∙ a .reads)))
+    (ih (find-kept I 0x70 common p e (o .area) (a .long)) (bytes-kept I 0x70 common p e (o .area) (a .long) b (a .bytes)) (ap parse w ∙ a .reads))) c
 
 -- ALL THE CALLS
 pub together : (calls : List Call) (I : List ℕ) (p : Partition) (ps : List Pair) → findOf I 0x70 common ≡ At p → AllBytes I
     → CallsBytes calls → parse (areaOf I (At p)) ≡ parsed ps → Together calls I p ps (runImage calls I) (run calls (modelOf (areaOf I (At p)) ps))
 together [] I p ps e b h r = together-none I p ps e b r
 together (call ∷ calls) I p ps e b h r =
-    together-as (run-first call calls I ∙ ap (after-first calls) (call-image call I p e)) (run-step call calls (modelOf (areaOf I (At p)) ps))
+    together-as refl (run-step call calls (modelOf (areaOf I (At p)) ps))
     (together-on call calls I p ps e (callArea call (areaOf I (At p))) (step call (modelOf (areaOf I (At p)) ps))
     (agree (p .offset + 16) (areaOf I (At p)) ps r (area-bytes I (At p) b) call (h .0))
     (λ f c q. together calls (pasted I (p .offset + 16) (callArea call (areaOf I (At p)) .area)) p
-    (agree (p .offset + 16) (areaOf I (At p)) ps r (area-bytes I (At p) b) call (h .0) .pairs) f c (h .1) q) b)
+    (agree (p .offset + 16) (areaOf I (At p)) ps r (area-bytes I (At p) b) call (h .0) .pairs) f c (h .1) q) b (call-image call I p e))
 
 -- ---- demand 3
 

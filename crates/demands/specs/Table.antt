@@ -15,69 +15,8 @@ use Rattle.values.specs.Rules.{Spells}
 use Rattle.pairs.specs.Rules.{Entry, In, sizes, Pairs, Once, BadByte, CutOff}
 use Rattle.variables.specs.Rules.{Holds, SetSize, SetLeaves, RemoveLeaves, NormalizeLeaves}
 use Rattle.variables.specs.Calls.{Call, set, remove, normalize, read, count}
-
--- what a caller may ask of an image
-pub data Request : Type 0 where
-  variable : Call → Request
-  check : Request
-  partition : ℕ → Request
-  find : ℕ → List ℕ → Request
-  area : ℕ → List ℕ → Request
-
--- all that the caller sees: code, offset, a length or count, a partition's header offset, blocks and signature, a part of the
--- image, and buffer and image afterwards
-pub record Seen : Type 0 where
-  pub code : ℕ
-  pub offset : ℕ
-  pub amount : ℕ
-  pub header : ℕ
-  pub blocks : ℕ
-  pub signature : ℕ
-  pub part : List ℕ
-  pub buffer : List ℕ
-  pub image : List ℕ
-
--- the buffer that a request lends
-abbrev pub lends : Request → List ℕ
-lends (variable (set name value)) = []
-lends (variable (remove name)) = []
-lends (variable normalize) = []
-lends (variable (read name buffer)) = buffer
-lends (variable count) = []
-lends check = []
-lends (partition n) = []
-lends (find signature name) = []
-lends (area signature name) = []
-
--- a number from 1 up: nothing else is answered, and buffer and image are as they were
-abbrev pub refuses : Request → List ℕ → ℕ → ℕ → Seen
-refuses r I code offset =
-    record { code = code; offset = offset; amount = 0; header = 0; blocks = 0; signature = 0; part = []; buffer = lends r; image = I }
-
--- done, with a length or count
-abbrev pub answers : ℕ → List ℕ → List ℕ → Seen
-answers amount buffer image =
-    record { code = 0; offset = 0; amount = amount; header = 0; blocks = 0; signature = 0; part = []; buffer = buffer; image = image }
-
--- done, with a partition
-abbrev pub shows : Partition → List ℕ → Seen
-shows p I =
-    record {
-      code = 0;
-      offset = 0;
-      amount = 0;
-      header = p .offset;
-      blocks = p .blocks .0;
-      signature = p .signature;
-      part = [];
-      buffer = [];
-      image = I;
-    }
-
--- done, with a part of the image
-abbrev pub hands : List ℕ → List ℕ → Seen
-hands part I =
-    record { code = 0; offset = 0; amount = 0; header = 0; blocks = 0; signature = 0; part = part; buffer = []; image = I }
+use Rattle.nvram.specs.Common.{common}
+use Rattle.demands.specs.Requests.{Request, variable, check, partition, find, area, Seen, refuses, answers, shows, hands}
 
 -- the requests that take a variable's name
 pub data Takes : Request → List ℕ → Type 0 where
@@ -88,10 +27,6 @@ pub data Takes : Request → List ℕ → Type 0 where
 -- not 11
 abbrev pub WellNamed : Request → Type 0
 WellNamed r = (name : List ℕ) → Takes r name → NameRule name
-
--- the name `common`
-abbrev pub common : List ℕ
-common = 0x63 ∷ 0x6F ∷ 0x6D ∷ 0x6D ∷ 0x6F ∷ 0x6E ∷ []
 
 -- not 11, not 1; sound headers lead up to a, where another should stand
 pub record AtHeader (r : Request) (I : List ℕ) (a : ℕ) : Type 0 where

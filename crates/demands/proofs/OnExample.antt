@@ -1,14 +1,13 @@
 -- The demands applied to the example image E: each premise is discharged.
-use Prim.Native.Nat.{ℕ, _<_}
+use Prim.Native.Nat.{ℕ}
 use mathlib.Core.Path.{_≡_, refl}
 use mathlib.Core.Bool.{Bool, true, false}
 use mathlib.Core.List.{List, [], _∷_}
-use native.Mathlib.Omega.{arith}
 use lib.Dec.{ltb}
 use borrow.Author.Tests.{ltb-true}
 use Rattle.lists.specs.Bytes.{AllBytes, sameBytes}
 use Rattle.lists.proofs.Tests.{clash}
-use Rattle.header.specs.Checksum.{sumFrom, sumcheck}
+use Rattle.header.specs.Checksum.{sumFrom}
 use Rattle.header.specs.Header.{headerAt, nameAt, validityOf, validityAt}
 use Rattle.header.specs.Rules.{blocksAt}
 use Rattle.partitions.specs.declared.Partition.{Partition}
@@ -24,9 +23,10 @@ use Rattle.pairs.specs.Area.{pairOf, pairBytes, stands, parseFrom, parse}
 use Rattle.pairs.specs.Rules.{Entry, WellFormed}
 use Rattle.variables.specs.Calls.{Call}
 use Rattle.pairs.proofs.EntryLaws.{parse-exactly}
-use Rattle.nvram.specs.Table.{Request, common}
-use Rattle.nvram.specs.Demands.{RequestBytes, CallsBytes, Demand1, Demand2, Demand3}
-use Rattle.nvram.proofs.DemandsLaws.{demands}
+use Rattle.nvram.specs.Common.{common}
+use Rattle.demands.specs.Requests.{Request}
+use Rattle.demands.specs.Demands.{RequestBytes, CallsBytes, Demand1, Demand2, Demand3}
+use Rattle.demands.proofs.DemandsLaws.{demands}
 
 -- numbers below 256, tested
 abbrev pick : Bool → Bool → Bool

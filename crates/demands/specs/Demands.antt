@@ -7,76 +7,20 @@ use lib.ListN.{length, take, drop}
 use Rattle.lists.specs.Bytes.{AllBytes}
 use Rattle.header.specs.Rules.{blocksAt}
 use Rattle.partitions.specs.declared.Partition.{Partition}
-use Rattle.partitions.specs.declared.Found.{Found}
-use Rattle.partitions.specs.declared.Found.the-variants.{At, Refused}
 use Rattle.partitions.specs.declared.Checked.the-variants.{Accepted}
-use Rattle.partitions.specs.Find.{checkOf, indexOf, findOf, areaOf}
-use Rattle.partitions.specs.Answers.{checkAnswer, findAnswer}
+use Rattle.partitions.specs.Find.{checkOf}
 use Rattle.partitions.specs.Cover.{Counted, FirstNamed, areaAt}
 use Rattle.values.specs.Rules.{Spells}
 use Rattle.values.specs.Value.{encode}
 use Rattle.pairs.specs.Rules.{Entry, WellFormed}
 use Rattle.variables.specs.Rules.{Holds}
 use Rattle.variables.specs.Calls.{Call, set, remove, normalize, read, count}
-use Rattle.nvram.specs.Calls.{Answer, callImage, runImage}
-use Rattle.nvram.specs.Model.{Model, run, canonicalArea}
-use Rattle.nvram.specs.Table.{Request, variable, check, partition, find, area, Seen, lends, common, Answers}
-
--- ---- what the library answers to a request
-
-abbrev pub seenFind : Found → List ℕ → Seen
-seenFind f I =
-    record {
-      code = findAnswer f .code;
-      offset = findAnswer f .offset;
-      amount = 0;
-      header = findAnswer f .header;
-      blocks = findAnswer f .blocks;
-      signature = findAnswer f .signature;
-      part = [];
-      buffer = [];
-      image = I;
-    }
-
-abbrev pub seen : Request → List ℕ → Seen
-seen (variable call) I =
-    record {
-      code = callImage call I .told .code;
-      offset = callImage call I .told .offset;
-      amount = callImage call I .told .amount;
-      header = 0;
-      blocks = 0;
-      signature = 0;
-      part = [];
-      buffer = callImage call I .told .buffer;
-      image = callImage call I .image;
-    }
-seen check I =
-    record {
-      code = checkAnswer (checkOf I) .code;
-      offset = checkAnswer (checkOf I) .offset;
-      amount = checkAnswer (checkOf I) .partitions;
-      header = 0;
-      blocks = 0;
-      signature = 0;
-      part = [];
-      buffer = [];
-      image = I;
-    }
-seen (partition n) I = seenFind (indexOf I n) I
-seen (find signature name) I = seenFind (findOf I signature name) I
-seen (area signature name) I =
-    record {
-      code = findAnswer (findOf I signature name) .code;
-      offset = findAnswer (findOf I signature name) .offset;
-      amount = 0;
-      header = 0;
-      blocks = 0;
-      signature = 0;
-      part = areaOf I (findOf I signature name);
-      buffer = [];
-      image = I;
-    }
+use Rattle.nvram.specs.Common.{common}
+use Rattle.nvram.specs.Calls.{callImage}
+use Rattle.demands.specs.Requests.{Request, variable, check, partition, find, area, Seen, lends}
+use Rattle.demands.specs.Table.{Answers}
+use Rattle.demands.specs.Model.{run, canonicalArea}
+use Rattle.demands.specs.Library.{seen, runImage}
 
 -- what a caller gives is bytes
 abbrev pub CallBytes : Call → Type 0

@@ -51,11 +51,11 @@ use Rattle.pairs.proofs.ParseLaws.{Good, area-read}
 use Rattle.variables.proofs.EditLaws.{length-area, parse-area, lookup-next, good-set, lookup-set}
 use Rattle.pairs.proofs.EntryLaws.{parse-exactly}
 use Rattle.variables.proofs.LookupLaws.{found-exactly}
 use Rattle.nvram.specs.Calls.{Answer, moved, answer, Result, callImage}
-use Rattle.nvram.specs.Table.{common}
-use Rattle.nvram.specs.Demands.{Demand2}
-use Rattle.nvram.proofs.AreaInImage.{found-area, area-bytes, find-kept, area-new}
+use Rattle.nvram.specs.Common.{common}
+use Rattle.demands.specs.Demands.{Demand2}
+use Rattle.demands.proofs.AreaInImage.{found-area, area-bytes, find-kept, area-new}
 use Rattle.nvram.proofs.CallLaws.{splitFound, splitParse, image-ill-named, image-refused, call-image}
 use Rattle.variables.proofs.CallPlaces.{call-misnamed, call-faulty, call-parsed}
 
 -- ---- a read

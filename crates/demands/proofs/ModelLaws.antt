@@ -16,7 +16,7 @@ use Rattle.pairs.specs.Rules.{Entry}
 use Rattle.pairs.proofs.ParseLaws.{length-pair, length-pairs, pair-front}
 use Rattle.variables.proofs.EditLaws.{set-first, set-next, remove-first, remove-next, lookup-first, lookup-next}
 use Rattle.pairs.proofs.EntryLaws.{entryOf, entriesOf}
-use Rattle.nvram.specs.Model.{same, newEntry, total, setEntry, dropEntry, newSizes, Value, some, none, valueOf, canonicalBytes, canonicalArea}
+use Rattle.demands.specs.Model.{same, newEntry, total, setEntry, dropEntry, newSizes, Value, some, none, valueOf, canonicalBytes, canonicalArea}
 
 -- ---- names
 

@@ -16,7 +16,6 @@ use Rattle.partitions.specs.declared.Checked.the-variants.{Accepted as Accepts,
 use Rattle.partitions.specs.declared.Found.{Found}
 use Rattle.partitions.specs.declared.Found.the-variants.{At, Refused}
 use Rattle.partitions.specs.Find.{checkOf, indexOf, findOf, areaOf}
-use Rattle.partitions.specs.Answers.{checkAnswer, findAnswer}
 use Rattle.partitions.specs.Cover.{Rejected, Counted, FirstNamed, NotNamed, Indexed, NotIndexed, areaAt}
 use Rattle.partitions.proofs.CoverLaws.{check-accepts, check-refuses}
 use Rattle.partitions.proofs.FoundLaws.{find-first, find-refuses, index-at, index-refuses}
@@ -24,54 +23,13 @@ use Rattle.names.specs.Name.{goodName}
 use Rattle.names.specs.Rules.{NameRule}
 use Rattle.names.proofs.NameLaws.{good-name-exactly}
 use Rattle.variables.specs.Calls.{Call, set, remove, normalize, read, count, lent, wellNamed}
 use Rattle.nvram.specs.Calls.{refusal, Result, callImage}
-use Rattle.nvram.specs.Table.{Request, variable, check, partition, find, area, Seen, lends, refuses, answers, shows, hands, Takes, by-set, by-remove, by-read, WellNamed, common, AtHeader, Absent, no-common, no-index, no-name, no-area, Answers}
-use Rattle.nvram.specs.Demands.{seen, seenFind}
-use Rattle.nvram.proofs.AreaInImage.{found-area}
+use Rattle.nvram.specs.Common.{common}
+use Rattle.demands.specs.Requests.{Request, variable, check, partition, find, area, lends, refuses, answers, shows, hands}
+use Rattle.demands.specs.Table.{Takes, by-set, by-remove, by-read, WellNamed, AtHeader, Absent, no-common, no-index, no-name, no-area, Answers}
+use Rattle.demands.specs.Library.{seenCall, seenCheck, seenFind, seenArea, seen}
+use Rattle.demands.proofs.AreaInImage.{found-area}
 use Rattle.nvram.proofs.CallLaws.{image-refused}
-
--- what is seen of each answer
-abbrev pub seenResult : Result → Seen
-seenResult r =
-    record {
-      code = r .told .code;
-      offset = r .told .offset;
-      amount = r .told .amount;
-      header = 0;
-      blocks = 0;
-      signature = 0;
-      part = [];
-      buffer = r .told .buffer;
-      image = r .image;
-    }
-
-abbrev seenCheck : List ℕ → Checked → Seen
-seenCheck I c =
-    record {
-      code = checkAnswer c .code;
-      offset = checkAnswer c .offset;
-      amount = checkAnswer c .partitions;
-      header = 0;
-      blocks = 0;
-      signature = 0;
-      part = [];
-      buffer = [];
-      image = I;
-    }
-
-abbrev seenArea : List ℕ → Found → Seen
-seenArea I f =
-    record {
-      code = findAnswer f .code;
-      offset = findAnswer f .offset;
-      amount = 0;
-      header = 0;
-      blocks = 0;
-      signature = 0;
-      part = areaOf I f;
-      buffer = [];
-      image = I;
-    }
 
 -- ---- 11
 
@@ -115,9 +73,9 @@ eleven-row count I e = clash (cc)
 
 -- a refusal by the image or the caller's name, as it is seen
 refusal-seen : (call : Call) (I : List ℕ) (e : Error) (r : Result) → r ≡ record { told = refusal e (lent call); image = I }
-    → seenResult r ≡ refuses (variable call) I (codeOf e) (offsetOf e)
+    → seenCall r ≡ refuses (variable call) I (codeOf e) (offsetOf e)
 refusal-seen call I e r q =
-    ap seenResult q ∙ ap (λ (b : List ℕ). seenResult (record { told = refusal e b; image = I })) (lent-same call)
+    ap seenCall q ∙ ap (λ (b : List ℕ). seenCall (record { told = refusal e b; image = I })) (lent-same call)
 
 pub ill-named-seen : (call : Call) (I : List ℕ) → wellNamed call ≡ false → seen (variable call) I ≡ refuses (variable call) I 11 0
 unfolding callImage
@@ -171,14 +129,14 @@ module _ (I : List ℕ) (bytes : AllBytes I) where
   unfolding areaOf
   missed-seen (variable call) e w m =
       refused-call call e (well-named call w) (find-refuses I 0x70 common bytes e .1 (moving (λ b. (b .0, absent-common (b .1))) m))
-  missed-seen check e w (inl r) = ap (seenCheck I) (check-refuses I bytes e .1 r)
+  missed-seen check e w (inl r) = ap (λ (c : Checked). seenCheck c I) (check-refuses I bytes e .1 r)
   missed-seen check e w (inr b) = elim (b .1) [ ]
   missed-seen (partition n) e w m =
       ap (λ (f : Found). seenFind f I) (index-refuses I bytes n e .1 (moving (λ b. (b .0, absent-index (b .1))) m))
   missed-seen (find signature name) e w m =
       ap (λ (f : Found). seenFind f I) (find-refuses I signature name bytes e .1 (moving (λ b. (b .0, absent-name (b .1))) m))
   missed-seen (area signature name) e w m =
-      ap (seenArea I) (find-refuses I signature name bytes e .1 (moving (λ b. (b .0, absent-area (b .1))) m))
+      ap (λ (f : Found). seenArea f I) (find-refuses I signature name bytes e .1 (moving (λ b. (b .0, absent-area (b .1))) m))
 
   pub header-seen : {a : ℕ} {e : Error} (r : Request) → AtHeader r I a → Breaks I a e → seen r I ≡ refuses r I (codeOf e) (offsetOf e)
   header-seen r h x = missed-seen r _ (h .named) (inl (Rejected.header (h .long) (h .cover) (h .within) x))
@@ -186,7 +144,7 @@ module _ (I : List ℕ) (bytes : AllBytes I) where
   -- ---- the image check, a partition, and its area
 
   pub check-seen : (n : ℕ) → Counted I n → seen check I ≡ answers n [] I
-  check-seen n c = ap (seenCheck I) (check-accepts I bytes n .1 c)
+  check-seen n c = ap (λ (c : Checked). seenCheck c I) (check-accepts I bytes n .1 c)
 
   pub partition-seen : (n : ℕ) (p : Partition) → Indexed I n p → seen (partition n) I ≡ shows p I
   partition-seen n p x = ap (λ (f : Found). seenFind f I) (index-at I bytes n p .1 x)
@@ -198,12 +156,12 @@ module _ (I : List ℕ) (bytes : AllBytes I) where
     pub area-seen : seen (area signature name) I ≡ hands (areaAt I (p .offset)) I
     area-seen =
         let e = find-first I signature name bytes p .1 f in
-        ap (seenArea I) e ∙ ap (λ (x : List ℕ). hands x I) (found-area I signature name p e)
+        ap (λ (f : Found). seenArea f I) e ∙ ap (λ (x : List ℕ). hands x I) (found-area I signature name p e)
 
   pub check-row : Answers I check (seen check I)
   check-row = go (checkOf I) refl
     where
-      go : (c : Checked) → checkOf I ≡ c → Answers I check (seenCheck I c)
+      go : (c : Checked) → checkOf I ≡ c → Answers I check (seenCheck c I)
       go (Accepts n) e = Answers.done-check (check-accepts I bytes n .0 e)
       go (Rejects x) e = missed-row check I x (λ name k. elim k [ ]) (inl (check-refuses I bytes x .0 e))
 
@@ -227,7 +185,7 @@ module _ (I : List ℕ) (bytes : AllBytes I) where
     unfolding areaOf
     area-row = go (findOf I signature name) refl
       where
-        go : (f : Found) → findOf I signature name ≡ f → Answers I (area signature name) (seenArea I f)
+        go : (f : Found) → findOf I signature name ≡ f → Answers I (area signature name) (seenArea f I)
         go (At p) e =
             subst (λ (x : List ℕ). Answers I (area signature name) (hands x I)) (sym (found-area I signature name p e))
             (Answers.done-area (find-first I signature name bytes p .0 e))

@@ -20,13 +20,15 @@ use Rattle.pairs.proofs.EntryLaws.{entriesOf, parse-exactly}
 use Rattle.variables.proofs.LookupLaws.{found-exactly, missing-exactly, set-size-exactly}
 use Rattle.variables.proofs.LeavesLaws.{set-leaves-exactly, remove-leaves-exactly, normalize-leaves-exactly}
 use Rattle.pairs.proofs.FaultLaws.{faulty-exactly}
 use Rattle.nvram.specs.Calls.{moved}
-use Rattle.nvram.specs.Table.{Request, variable, Seen, refuses, answers, by-set, by-remove, AtPair, Answers}
-use Rattle.nvram.specs.Demands.{seen, RequestBytes}
-use Rattle.nvram.proofs.ModelLaws.{count-entries}
-use Rattle.nvram.proofs.TableImage.{well-named, eleven-seen, missed-seen, header-seen, check-seen, partition-seen, find-seen, area-seen}
-use Rattle.nvram.proofs.TablePlaces.{holding-pasted}
-use Rattle.nvram.proofs.TableSeen.{CommonAt, pair-common, seenOutcome, common-bytes, becomes-edit, call-seen, refuse-seen, answer-seen, set-short, set-done, remove-missing, remove-found, read-missing, read-short, read-done, normalize-done, count-done}
+use Rattle.demands.specs.Requests.{Request, variable, Seen, refuses, answers}
+use Rattle.demands.specs.Table.{by-set, by-remove, AtPair, Answers}
+use Rattle.demands.specs.Library.{seen}
+use Rattle.demands.specs.Demands.{RequestBytes}
+use Rattle.demands.proofs.ModelLaws.{count-entries}
+use Rattle.demands.proofs.TableImage.{well-named, eleven-seen, missed-seen, header-seen, check-seen, partition-seen, find-seen, area-seen}
+use Rattle.demands.proofs.TablePlaces.{holding-pasted}
+use Rattle.demands.proofs.TableSeen.{CommonAt, pair-common, seenOutcome, common-bytes, becomes-edit, call-seen, refuse-seen, answer-seen, set-short, set-done, remove-missing, remove-found, read-missing, read-short, read-done, normalize-done, count-done}
 
 -- ---- 7 to 10
 

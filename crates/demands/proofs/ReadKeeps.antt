@@ -11,10 +11,10 @@ use Rattle.partitions.specs.Find.{findOf, areaOf}
 use Rattle.pairs.specs.Area.{Parse, parsed, faulty, parse}
 use Rattle.variables.specs.Edits.{Lookup, found, missing, lookup}
 use Rattle.variables.specs.Calls.{Call, read, count, wellNamed, readBy, callPairs, callBy, callArea}
 use Rattle.nvram.specs.Calls.{Result, callImage}
-use Rattle.nvram.proofs.AreaInImage.{area-back}
+use Rattle.nvram.proofs.AreaBack.{area-back}
 use Rattle.nvram.proofs.CallLaws.{splitFound, call-image, image-unfound}
-use Rattle.nvram.specs.Table.{common}
+use Rattle.nvram.specs.Common.{common}
 
 -- ---- they leave the area
 

@@ -4,10 +4,12 @@ use mathlib.Core.Path.{_≡_, refl, subst}
 use mathlib.Core.Logic.{_≢_}
 use mathlib.Core.List.{List, []}
 use Rattle.lists.specs.Bytes.{AllBytes}
-use Rattle.nvram.specs.Table.{Request, Seen, lends, refuses, Answers}
-use Rattle.nvram.specs.Demands.{seen, RequestBytes, Demand1}
-use Rattle.nvram.proofs.TableCalls.{row-seen}
-use Rattle.nvram.proofs.TableRows.{seen-row}
+use Rattle.demands.specs.Requests.{Request, Seen, lends, refuses}
+use Rattle.demands.specs.Table.{Answers}
+use Rattle.demands.specs.Library.{seen}
+use Rattle.demands.specs.Demands.{RequestBytes, Demand1}
+use Rattle.demands.proofs.TableCalls.{row-seen}
+use Rattle.demands.proofs.TableRows.{seen-row}
 
 -- what every number from 1 up leaves
 record Untouched (I : List ℕ) (r : Request) (s : Seen) : Type 0 where

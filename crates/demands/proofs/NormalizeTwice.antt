@@ -22,11 +22,12 @@ use Rattle.variables.specs.Edits.{areaOf as written, canonicalPair, normalizePa
 use Rattle.variables.specs.Calls.{normalize, wellNamed, Outcome, callPairs, callArea}
 use Rattle.pairs.proofs.ParseLaws.{Good, length-pairs, area-read, read-room}
 use Rattle.variables.proofs.EditLaws.{length-area, parse-area, good-normalize, normalize-twice as pairs-twice}
 use Rattle.nvram.specs.Calls.{Result, callImage}
-use Rattle.nvram.proofs.AreaInImage.{area-back, find-kept, area-new}
+use Rattle.demands.proofs.AreaInImage.{find-kept, area-new}
+use Rattle.nvram.proofs.AreaBack.{area-back}
 use Rattle.nvram.proofs.CallLaws.{splitFound, splitParse, call-image, image-unfound}
 use Rattle.variables.proofs.CallPlaces.{call-faulty, call-parsed}
-use Rattle.nvram.specs.Table.{common}
+use Rattle.nvram.specs.Common.{common}
 
 -- ---- the canonical form never takes more room
 

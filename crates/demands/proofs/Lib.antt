@@ -1,0 +1,14 @@
+pub mod AreaInImage
+pub mod ReadKeeps
+pub mod ModelLaws
+pub mod Refinement
+pub mod Demand2Laws
+pub mod NormalizeTwice
+pub mod TableImage
+pub mod TablePlaces
+pub mod TableSeen
+pub mod TableCalls
+pub mod TableRows
+pub mod TableLaws
+pub mod DemandsLaws
+pub mod OnExample

@@ -1,0 +1,6 @@
+pub mod Requests
+pub mod Table
+pub mod Model
+pub mod Library
+pub mod Demands
+pub mod Examples
