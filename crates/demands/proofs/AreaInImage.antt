@@ -13,7 +13,7 @@ use Rattle.lists.proofs.Tests.{split, clash}
 use Rattle.lists.proofs.ByteLaws.{every-drop, every-take}
 use Rattle.lists.proofs.PastedLaws.{length-pasted, take-pasted-before, drop-pasted-after, drop-pasted-at, getD-before, getD-after}
 use Rattle.lists.proofs.ListLaws.{every-append}
-use Rattle.header.specs.declared.Error.the-variants.{ImageLength}
+use Rattle.errors.specs.declared.Error.the-variants.{ImageLength}
 use Rattle.header.specs.declared.Header.{Header}
 use Rattle.header.specs.declared.Validity.{Validity}
 use Rattle.header.specs.declared.Validity.the-variants.{Valid, Invalid}

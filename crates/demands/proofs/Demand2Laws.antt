@@ -14,8 +14,8 @@ use Rattle.lists.specs.Pasted.{pasted}
 use Rattle.lists.proofs.Tests.{split, clash}
 use Rattle.lists.proofs.ByteLaws.{same-true}
 use Rattle.lists.proofs.PastedLaws.{pasted-first}
-use Rattle.header.specs.declared.Error.{Error}
-use Rattle.header.specs.declared.Error.the-variants.{
+use Rattle.errors.specs.declared.Error.{Error}
+use Rattle.errors.specs.declared.Error.the-variants.{
   ImageLength,
   ZeroLength,
   PastEnd,
@@ -31,7 +31,7 @@ use Rattle.header.specs.declared.Error.the-variants.{
   NoRoom,
   ShortBuffer,
 }
-use Rattle.header.specs.Errors.{codeOf}
+use Rattle.errors.specs.Errors.{codeOf}
 use Rattle.partitions.specs.declared.Partition.{Partition}
 use Rattle.partitions.specs.declared.Found.the-variants.{At}
 use Rattle.partitions.specs.Find.{findOf, areaOf}

@@ -10,7 +10,7 @@ use lib.Dec.{eqb}
 use borrow.Author.Tests.{eqb-true, eqb-false, ne-eqb}
 use Rattle.lists.specs.Pasted.{pasted}
 use Rattle.lists.proofs.Tests.{split}
-use Rattle.header.specs.declared.Error.{Error}
+use Rattle.errors.specs.declared.Error.{Error}
 use Rattle.partitions.specs.declared.Partition.{Partition}
 use Rattle.partitions.specs.declared.Found.the-variants.{At}
 use Rattle.partitions.specs.Find.{findOf, areaOf}

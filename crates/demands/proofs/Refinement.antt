@@ -12,7 +12,7 @@ use Rattle.lists.specs.Bytes.{AllBytes, sameBytes}
 use Rattle.lists.specs.Pasted.{pasted}
 use Rattle.lists.proofs.Tests.{split, clash}
 use Rattle.lists.proofs.PastedLaws.{pasted-first}
-use Rattle.header.specs.declared.Error.the-variants.{BadName, NoVariable, NoRoom, ShortBuffer}
+use Rattle.errors.specs.declared.Error.the-variants.{BadName, NoVariable, NoRoom, ShortBuffer}
 use Rattle.header.specs.Rules.{blocksAt}
 use Rattle.partitions.specs.declared.Partition.{Partition}
 use Rattle.partitions.specs.declared.Found.the-variants.{At}

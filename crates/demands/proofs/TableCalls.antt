@@ -7,9 +7,9 @@ use native.Mathlib.Omega.{arith}
 use lib.ListN.{length}
 use Rattle.lists.specs.Bytes.{AllBytes}
 use Rattle.lists.specs.Pasted.{pasted}
-use Rattle.header.specs.declared.Error.{Error}
-use Rattle.header.specs.declared.Error.the-variants.{ImageLength, NoPartition, NoVariable, NoRoom, ShortBuffer}
-use Rattle.header.specs.Errors.{codeOf, offsetOf}
+use Rattle.errors.specs.declared.Error.{Error}
+use Rattle.errors.specs.declared.Error.the-variants.{ImageLength, NoPartition, NoVariable, NoRoom, ShortBuffer}
+use Rattle.errors.specs.Errors.{codeOf, offsetOf}
 use Rattle.header.specs.Rules.{Breaks}
 use Rattle.partitions.specs.Cover.{areaAt, Rejected}
 use Rattle.pairs.specs.Area.{Pair, pairsBytes, Parse, parsed, faulty, parse}

@@ -8,7 +8,7 @@ use Rattle.lists.specs.Pasted.{pasted}
 use Rattle.header.specs.Checksum.{sumFrom, sumcheck}
 use Rattle.header.specs.Header.{headerAt, nameAt, validityOf, validityAt}
 use Rattle.partitions.specs.declared.Checked.the-variants.{Accepted, Refused}
-use Rattle.header.specs.declared.Error.the-variants.{ImageLength, ZeroLength, PastEnd}
+use Rattle.errors.specs.declared.Error.the-variants.{ImageLength, ZeroLength, PastEnd}
 use Rattle.partitions.specs.Walk.{allowedLength, partitionOf, pastOf, stepAt, walkFrom, walk}
 use Rattle.partitions.specs.Find.{checkedBy, checkOf, padded, matches, firstMatch, findBy, findOf, areaOf}
 use Rattle.partitions.specs.Examples.{E, common, freeSpace}

@@ -6,7 +6,7 @@ use mathlib.Core.List.{List, _++_}
 use lib.ListN.{length, take, drop, replicate}
 use lib.Dec.{ltb}
 use Rattle.lists.specs.Pasted.{pasted, pickList}
-use Rattle.header.specs.declared.Error.the-variants.{NoRoom}
+use Rattle.errors.specs.declared.Error.the-variants.{NoRoom}
 use Rattle.pairs.specs.Area.{Pair, pairsBytes, parse, parsed}
 use Rattle.variables.specs.Calls.{Reply, done, refused}
 

@@ -1,5 +1,5 @@
 // The edits of a variable in its area: set and remove.
-use header::Error;
+use errors::Error;
 use names::NameCheck;
 use pairs::Place;
 use pairs::Scanned;
@@ -13,7 +13,7 @@ ghost use Rattle.values.specs.Value.{encode};
 ghost use Rattle.pairs.specs.Area.{pairBytes, parse};
 ghost use Rattle.pairs.specs.Places.{findAt};
 ghost use Rattle.variables.specs.Edits.{canonicalPair};
-ghost use Rattle.variables.specs.EditPlaces.{editReply};
+ghost use Rattle.variables.specs.Places.{editReply};
 ghost use Rattle.variables.specs.Calls as Calls;
 ghost use Rattle.edits.specs.Replaced.{Used, tailShifted, replaceReply, replaceArea};
 

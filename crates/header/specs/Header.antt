@@ -10,7 +10,7 @@ use Rattle.header.specs.declared.Header.{Header}
 use Rattle.header.specs.declared.NewHeader.{NewHeader}
 use Rattle.header.specs.declared.Validity.{Validity}
 use Rattle.header.specs.declared.Validity.the-variants.{Valid, Invalid}
-use Rattle.header.specs.declared.Error.the-variants.{ZeroLength, PastEnd, Checksum, ZeroChecksum}
+use Rattle.errors.specs.declared.Error.the-variants.{ZeroLength, PastEnd, Checksum, ZeroChecksum}
 use Rattle.header.specs.Checksum.{sumcheck}
 
 -- 16 bytes to a block

@@ -1,4 +1,3 @@
-pub mod Errors
 pub mod Checksum
 pub mod Header
 pub mod Rules

@@ -7,7 +7,7 @@ use native.Mathlib.Omega.{arith}
 use lib.ListN.{length, length-append}
 use Rattle.lists.proofs.Tests.{split, clash}
 use Rattle.lists.proofs.Grown.{Grown, grown-none, grown-as, grown-piece, grown-same, grown-all, grown-end}
-use Rattle.header.specs.declared.Error.{Error}
+use Rattle.errors.specs.declared.Error.{Error}
 use Rattle.header.specs.declared.Validity.the-variants.{Valid}
 use Rattle.header.specs.Header.{headerAt, validityAt}
 use Rattle.header.proofs.ValidityLaws.{valid-nonzero}

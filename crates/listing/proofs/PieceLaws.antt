@@ -10,7 +10,7 @@ use borrow.Author.Tests.{le-leb, lt-leb, leb-true}
 use Rattle.lists.specs.Pasted.{pasted}
 use Rattle.lists.proofs.Tests.{split, clash}
 use Rattle.lists.proofs.PastedLaws.{set-pasted, set-after, pasted-under, pasted-more, length-pasted}
-use Rattle.header.specs.declared.Error.the-variants.{ShortBuffer}
+use Rattle.errors.specs.declared.Error.the-variants.{ShortBuffer}
 use Rattle.listing.specs.declared.Listed.{Listed}
 use Rattle.listing.specs.declared.Listed.the-variants.{Written, Refused}
 use Rattle.listing.specs.Text.{decimal, hexDigit, hexByte}

@@ -9,8 +9,8 @@ use lib.ListN.{length, getD, length-append, List·getD-append}
 use borrow.Author.Tests.{ltb-true, ltb-false, lt-ltb, le-ltb}
 use Rattle.lists.specs.Bytes.{Every}
 use Rattle.lists.proofs.Tests.{split, clash}
-use Rattle.header.specs.declared.Error.{Error}
-use Rattle.header.specs.declared.Error.the-variants.{
+use Rattle.errors.specs.declared.Error.{Error}
+use Rattle.errors.specs.declared.Error.the-variants.{
   ImageLength,
   ZeroLength,
   PastEnd,
@@ -27,7 +27,7 @@ use Rattle.header.specs.declared.Error.the-variants.{
   ShortBuffer,
 }
 use Rattle.header.specs.declared.Validity.the-variants.{Valid, Invalid}
-use Rattle.header.specs.Errors.{codeOf, offsetOf}
+use Rattle.errors.specs.Errors.{codeOf, offsetOf}
 use Rattle.header.specs.declared.Header.{Header}
 use Rattle.header.specs.Checksum.{sumcheck}
 use Rattle.header.specs.Header.{bytesOf, covered as summed, headerAt, validityOf, validityAt, pickValidity}

@@ -11,8 +11,8 @@ use borrow.Author.Tests.{eq-eqb, ne-eqb, ltb-true, ltb-false, lt-ltb, le-ltb, le
 use Rattle.lists.proofs.Tests.{split}
 use Rattle.header.specs.declared.Header.{Header}
 use Rattle.header.specs.Header.{nameAt, headerAt}
-use Rattle.header.specs.declared.Error.{Error}
-use Rattle.header.specs.Errors.{codeOf, offsetOf}
+use Rattle.errors.specs.declared.Error.{Error}
+use Rattle.errors.specs.Errors.{codeOf, offsetOf}
 use Rattle.partitions.specs.declared.Partition.{Partition}
 use Rattle.partitions.specs.Walk.{broken}
 use Rattle.listing.specs.Text.{decimalFrom, decimal, hexDigit, hexByte, visible, shownName, line, refusedWord, atWord, textBy}

@@ -5,8 +5,8 @@ use mathlib.Core.List.{List}
 use lib.ListN.{length}
 use lib.Dec.{leb}
 use Rattle.lists.specs.Pasted.{pasted}
-use Rattle.header.specs.declared.Error.the-variants.{ShortBuffer}
-use Rattle.header.specs.Errors.{codeOf}
+use Rattle.errors.specs.declared.Error.the-variants.{ShortBuffer}
+use Rattle.errors.specs.Errors.{codeOf}
 use Rattle.listing.specs.declared.Listed.{Listed}
 use Rattle.listing.specs.declared.Listed.the-variants.{Written, Refused}
 use Rattle.listing.specs.declared.ListAnswer.{ListAnswer}

@@ -4,8 +4,8 @@ use mathlib.Core.Bool.{Bool, true, false, cond, _&&_}
 use mathlib.Core.List.{List, [], _∷_, _++_}
 use lib.ListN.{length}
 use lib.Dec.{leb, ltb, eqb}
-use Rattle.header.specs.declared.Error.{Error}
-use Rattle.header.specs.Errors.{codeOf, offsetOf}
+use Rattle.errors.specs.declared.Error.{Error}
+use Rattle.errors.specs.Errors.{codeOf, offsetOf}
 use Rattle.header.specs.Header.{nameAt}
 use Rattle.partitions.specs.declared.Partition.{Partition}
 use Rattle.partitions.specs.Walk.{Walk, covered, broken, walk}

@@ -5,7 +5,7 @@ use mathlib.Core.Bool.{Bool, true, false}
 use mathlib.Core.List.{List, [], _∷_}
 use lib.ListN.{length}
 use Rattle.lists.specs.Bytes.{sameBytes}
-use Rattle.header.specs.declared.Error.the-variants.{ImageLength, NoPartition}
+use Rattle.errors.specs.declared.Error.the-variants.{ImageLength, NoPartition}
 use Rattle.header.specs.Header.{headerAt}
 use Rattle.partitions.specs.declared.Partition.{Partition}
 use Rattle.partitions.specs.declared.Found.{Found}

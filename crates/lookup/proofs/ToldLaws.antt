@@ -2,8 +2,8 @@
 use Prim.Native.Nat.{ℕ}
 use mathlib.Core.Path.{_≡_, ap, sym, _∙_}
 use mathlib.Core.List.{List, []}
-use Rattle.header.specs.declared.Error.{Error}
-use Rattle.header.specs.Errors.{codeOf, offsetOf}
+use Rattle.errors.specs.declared.Error.{Error}
+use Rattle.errors.specs.Errors.{codeOf, offsetOf}
 use Rattle.partitions.specs.declared.Partition.{Partition}
 use Rattle.partitions.specs.declared.Found.{Found}
 use Rattle.partitions.specs.declared.Found.the-variants.{At, Refused}

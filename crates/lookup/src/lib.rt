@@ -5,7 +5,7 @@ ghost use Rattle.lists.specs.Bytes.{sameBytes};
 ghost use Rattle.header.specs.Header.{headerAt};
 ghost use Rattle.partitions.specs.Find.{padded, keepFirst, findOf, areaOf};
 ghost use Rattle.partitions.specs.Answers.{findAnswer};
-use header::Error;
+use errors::Error;
 use header::Header;
 use partitions::Cursor;
 use partitions::Found;

@@ -16,7 +16,7 @@ use Rattle.values.specs.declared.Written.{Written}
 use Rattle.values.specs.declared.Written.the-variants.{Length, NoRoom}
 use Rattle.values.specs.Value.{spelled, decode, encode, part, recoded, recodedOf, recodedIn}
 use Rattle.encoding.proofs.RecodeLaws.{Recodable, recoded-taken, recoded-short}
-use Rattle.header.specs.declared.Error.{Error}
+use Rattle.errors.specs.declared.Error.{Error}
 use Rattle.pairs.specs.declared.PairAt.{PairAt}
 use Rattle.pairs.specs.declared.PairAt.the-variants as PairAt
 use Rattle.pairs.specs.declared.Scanned.the-variants as Scanned

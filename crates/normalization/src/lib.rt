@@ -8,7 +8,7 @@ ghost use Prim.Native.Nat.{_+_, _≤_, _<_};
 ghost use lib.ListN.{length};
 ghost use Rattle.lists.specs.Pasted.{pasted};
 ghost use Rattle.pairs.specs.Area.{parse};
-ghost use Rattle.variables.specs.EditPlaces.{editReply};
+ghost use Rattle.variables.specs.Places.{editReply};
 ghost use Rattle.variables.specs.Calls as Calls;
 ghost use Rattle.normalization.specs.Normalized.{PairMoves, pairRecoded, Parses, normalizedBytes};
 

@@ -11,9 +11,9 @@ use Rattle.lists.specs.Pasted.{pasted}
 use Rattle.lists.proofs.Tests.{split, clash}
 use Rattle.lists.proofs.PastedLaws.{part-pasted}
 use Rattle.header.specs.declared.Bytes.{Bytes}
-use Rattle.header.specs.declared.Error.{Error}
-use Rattle.header.specs.declared.Error.the-variants.{NoRoom, ShortBuffer, BadName}
-use Rattle.header.specs.Errors.{offsetOf}
+use Rattle.errors.specs.declared.Error.{Error}
+use Rattle.errors.specs.declared.Error.the-variants.{NoRoom, ShortBuffer, BadName}
+use Rattle.errors.specs.Errors.{offsetOf}
 use Rattle.header.specs.Header.{bytesOf}
 use Rattle.partitions.specs.declared.Partition.{Partition}
 use Rattle.partitions.specs.declared.Found.{Found}
@@ -33,7 +33,7 @@ use Rattle.variables.specs.declared.ReadAnswer.the-variants as ReadAnswer
 use Rattle.variables.specs.declared.Edited.{Edited}
 use Rattle.variables.specs.declared.Edited.the-variants as Edited
 use Rattle.variables.specs.Places.{countReply, readReply}
-use Rattle.variables.specs.EditPlaces.{editReply}
+use Rattle.variables.specs.Places.{editReply}
 use Rattle.names.specs.declared.NameCheck.the-variants.{Good, Wrong}
 use Rattle.names.specs.Name.{nameCheck, goodName}
 use Rattle.variables.proofs.CallPlaces.{good-told, wrong-told, call-misnamed, call-faulty, call-parsed}

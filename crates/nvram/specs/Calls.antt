@@ -3,8 +3,8 @@ use Prim.Native.Nat.{ℕ, _+_}
 use mathlib.Core.Bool.{Bool, true, false}
 use mathlib.Core.List.{List, []}
 use Rattle.lists.specs.Pasted.{pasted}
-use Rattle.header.specs.declared.Error.{Error}
-use Rattle.header.specs.declared.Error.the-variants.{
+use Rattle.errors.specs.declared.Error.{Error}
+use Rattle.errors.specs.declared.Error.the-variants.{
   ImageLength,
   ZeroLength,
   PastEnd,
@@ -20,7 +20,7 @@ use Rattle.header.specs.declared.Error.the-variants.{
   NoRoom,
   ShortBuffer,
 }
-use Rattle.header.specs.Errors.{codeOf, offsetOf}
+use Rattle.errors.specs.Errors.{codeOf, offsetOf}
 use Rattle.header.specs.Header.{bytesOf}
 use Rattle.partitions.specs.declared.Found.{Found}
 use Rattle.partitions.specs.declared.Found.the-variants.{At, Refused}

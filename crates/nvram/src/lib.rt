@@ -1,5 +1,5 @@
 // Every call on an image: the library's face.
-use header::Error;
+use errors::Error;
 use header::Header;
 use names::NameCheck;
 use partitions::Found;
@@ -8,12 +8,12 @@ use variables::Edited;
 use variables::ReadAnswer;
 ghost use mathlib.Core.Path.{_≡_};
 ghost use Prim.Native.Nat.{_+_, _<_, _^_};
-ghost use Rattle.header.specs.Errors.{offsetOf};
+ghost use Rattle.errors.specs.Errors.{offsetOf};
 ghost use Rattle.partitions.specs.Find.{findOf};
 ghost use Rattle.variables.specs.Calls as Calls;
 ghost use mathlib.Core.List.{[]};
 ghost use Rattle.names.specs.Name.{goodName};
-ghost use Rattle.variables.specs.EditPlaces.{editReply};
+ghost use Rattle.variables.specs.Places.{editReply};
 ghost use Rattle.nvram.specs.Common.{common};
 ghost use Rattle.nvram.specs.Calls.{moved, areaSpan, countAnswer, readAnswer, editAnswer, replyOffset, nameFirst, callImage};
 ghost use Rattle.nvram.specs.Calls.{answer as answerAt};

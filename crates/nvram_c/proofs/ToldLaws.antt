@@ -2,8 +2,8 @@
 use Prim.Native.Nat.{ℕ}
 use mathlib.Core.Path.{_≡_, refl, sym, ap, _∙_}
 use mathlib.Core.List.{List}
-use Rattle.header.specs.declared.Error.{Error}
-use Rattle.header.specs.Errors.{codeOf, offsetOf}
+use Rattle.errors.specs.declared.Error.{Error}
+use Rattle.errors.specs.Errors.{codeOf, offsetOf}
 use Rattle.variables.specs.declared.Counted.{Counted}
 use Rattle.variables.specs.declared.Counted.the-variants as Counted
 use Rattle.variables.specs.declared.ReadAnswer.{ReadAnswer}

@@ -8,9 +8,9 @@ use native.Mathlib.Omega.{arith}
 use lib.ListN.{length, length-append}
 use Rattle.lists.specs.Bytes.{AllBytes, sameBytes}
 use Rattle.lists.proofs.Tests.{split, clash}
-use Rattle.header.specs.declared.Error.{Error}
-use Rattle.header.specs.declared.Error.the-variants.{AreaEnd, StoredName, Escape, Repeated}
-use Rattle.header.specs.Errors.{offsetOf}
+use Rattle.errors.specs.declared.Error.{Error}
+use Rattle.errors.specs.declared.Error.the-variants.{AreaEnd, StoredName, Escape, Repeated}
+use Rattle.errors.specs.Errors.{offsetOf}
 use Rattle.names.specs.Rules.{NameRule}
 use Rattle.values.specs.Value.{spelled, decode}
 use Rattle.values.specs.Rules.{Spells}

@@ -7,8 +7,8 @@ use native.Mathlib.Omega.{arith}
 use lib.ListN.{length, length-append}
 use Rattle.lists.specs.Bytes.{Every, AllBytes}
 use Rattle.lists.proofs.Tests.{split, clash}
-use Rattle.header.specs.declared.Error.{Error}
-use Rattle.header.specs.declared.Error.the-variants.{Repeated}
+use Rattle.errors.specs.declared.Error.{Error}
+use Rattle.errors.specs.declared.Error.the-variants.{Repeated}
 use Rattle.names.specs.Rules.{NameRule}
 use Rattle.values.specs.Value.{spelled}
 use Rattle.pairs.specs.Scan.{Stand, standAt}

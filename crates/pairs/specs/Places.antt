@@ -6,7 +6,7 @@ use lib.ListN.{length}
 use Rattle.lists.specs.Bytes.{sameBytes}
 use Rattle.repeats.specs.declared.Repeat.{Repeat}
 use Rattle.repeats.specs.declared.Repeat.the-variants as Repeat
-use Rattle.header.specs.declared.Error.the-variants.{AreaEnd, StoredName, Escape, Repeated}
+use Rattle.errors.specs.declared.Error.the-variants.{AreaEnd, StoredName, Escape, Repeated}
 use Rattle.pairs.specs.declared.ScanEnd.{ScanEnd}
 use Rattle.pairs.specs.declared.ScanEnd.the-variants as ScanEnd
 use Rattle.pairs.specs.declared.PairAt.{PairAt}

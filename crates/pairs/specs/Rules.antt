@@ -5,8 +5,8 @@ use mathlib.Core.List.{List, [], _∷_, _++_}
 use mathlib.Core.Logic.{_≢_, _⊎_}
 use lib.ListN.{length}
 use Rattle.lists.specs.Bytes.{Every}
-use Rattle.header.specs.declared.Error.{Error}
-use Rattle.header.specs.declared.Error.the-variants.{AreaEnd, StoredName, Escape, Repeated}
+use Rattle.errors.specs.declared.Error.{Error}
+use Rattle.errors.specs.declared.Error.the-variants.{AreaEnd, StoredName, Escape, Repeated}
 use Rattle.names.specs.Rules.{NameByte, NameRule}
 use Rattle.values.specs.Rules.{Spells}
 

@@ -1,5 +1,5 @@
 // The pairs of a variable area: what stands at an offset, and the scan of the whole area.
-use header::Error;
+use errors::Error;
 use repeats::Repeat;
 ghost use mathlib.Core.Path.{_≡_};
 ghost use mathlib.Core.Bool.{false};

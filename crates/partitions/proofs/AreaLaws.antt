@@ -10,7 +10,7 @@ use lib.ListN.{length, take, drop, getD, length-drop}
 use lib.Seq.{getD-take, getD-drop, length-take-le}
 use Rattle.lists.proofs.Tests.{clash}
 use Rattle.header.specs.declared.Bytes.{Bytes}
-use Rattle.header.specs.declared.Error.{Error}
+use Rattle.errors.specs.declared.Error.{Error}
 use Rattle.header.specs.declared.Validity.the-variants.{Valid}
 use Rattle.header.specs.Header.{headerAt, bytesOf, validityAt}
 use Rattle.header.proofs.ValidityLaws.{valid-nonzero, valid-fits}
@@ -66,7 +66,7 @@ walk-inside : (image : List ℕ) → WalkInside image (walk image)
 unfolding walk
 walk-inside image = go (allowedLength (length image))
   where
-    go : (b : Bool) → WalkInside image (pickWalk b (walkFrom (suc (length image)) image 0) (broken Rattle.header.specs.declared.Error.the-variants.ImageLength))
+    go : (b : Bool) → WalkInside image (pickWalk b (walkFrom (suc (length image)) image 0) (broken Rattle.errors.specs.declared.Error.the-variants.ImageLength))
     go true = from-inside image (suc (length image)) 0
     go false = tt
 

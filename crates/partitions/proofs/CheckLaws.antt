@@ -5,8 +5,8 @@ use mathlib.Core.Bool.{true, false}
 use mathlib.Core.List.{List, [], _∷_}
 use native.Mathlib.Omega.{arith}
 use lib.ListN.{length}
-use Rattle.header.specs.declared.Error.{Error}
-use Rattle.header.specs.declared.Error.the-variants.{ImageLength}
+use Rattle.errors.specs.declared.Error.{Error}
+use Rattle.errors.specs.declared.Error.the-variants.{ImageLength}
 use Rattle.partitions.specs.declared.Partition.{Partition}
 use Rattle.partitions.specs.declared.Cursor.{Cursor}
 use Rattle.partitions.specs.declared.Step.the-variants.{Next, End, Broken}

@@ -10,8 +10,8 @@ use lib.Dec.{leb, eqb}
 use borrow.Author.Tests.{eq-eqb, le-leb, eqb-true, leb-true}
 use Rattle.lists.specs.Bytes.{AllBytes}
 use Rattle.lists.proofs.Tests.{split, clash, and-true}
-use Rattle.header.specs.declared.Error.{Error}
-use Rattle.header.specs.declared.Error.the-variants.{ImageLength}
+use Rattle.errors.specs.declared.Error.{Error}
+use Rattle.errors.specs.declared.Error.the-variants.{ImageLength}
 use Rattle.header.specs.declared.Validity.the-variants.{Valid}
 use Rattle.header.specs.Header.{headerAt, validityAt}
 use Rattle.header.specs.Rules.{blocksAt, Sound, Breaks}

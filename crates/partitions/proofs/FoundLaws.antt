@@ -11,8 +11,8 @@ use borrow.Author.Tests.{eq-eqb, eqb-true}
 use Rattle.lists.specs.Bytes.{AllBytes, sameBytes}
 use Rattle.lists.proofs.Tests.{split, clash, and-true}
 use Rattle.lists.proofs.ByteLaws.{same-refl, same-true}
-use Rattle.header.specs.declared.Error.{Error}
-use Rattle.header.specs.declared.Error.the-variants.{NoPartition}
+use Rattle.errors.specs.declared.Error.{Error}
+use Rattle.errors.specs.declared.Error.the-variants.{NoPartition}
 use Rattle.header.specs.Header.{headerAt, nameAt}
 use Rattle.header.specs.Rules.{Breaks, two, three, four, five}
 use Rattle.header.proofs.RuleLaws.{signature-read, name-read}

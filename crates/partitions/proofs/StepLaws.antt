@@ -7,7 +7,7 @@ use lib.ListN.{length}
 use borrow.Author.Tests.{le-leb, lt-leb}
 use Rattle.header.specs.declared.Blocks.{Blocks}
 use Rattle.header.specs.declared.Bytes.{Bytes}
-use Rattle.header.specs.declared.Error.{Error}
+use Rattle.errors.specs.declared.Error.{Error}
 use Rattle.header.specs.declared.Validity.{Validity}
 use Rattle.header.specs.declared.Validity.the-variants.{Valid, Invalid}
 use Rattle.header.specs.Header.{headerAt, bytesOf, validityAt}

@@ -1,5 +1,5 @@
 -- The numbers and values that a caller sees in each answer; with every code from 1 up the values are 0.
-use Rattle.header.specs.Errors.{codeOf, offsetOf}
+use Rattle.errors.specs.Errors.{codeOf, offsetOf}
 use Rattle.partitions.specs.declared.CheckAnswer.{CheckAnswer}
 use Rattle.partitions.specs.declared.Checked.{Checked}
 use Rattle.partitions.specs.declared.Checked.the-variants.{Accepted, Refused as Rejected}

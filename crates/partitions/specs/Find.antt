@@ -5,7 +5,7 @@ use mathlib.Core.List.{List, [], _∷_, _++_}
 use lib.ListN.{length, take, drop, replicate}
 use lib.Dec.{eqb}
 use Rattle.lists.specs.Bytes.{sameBytes}
-use Rattle.header.specs.declared.Error.the-variants.{NoPartition}
+use Rattle.errors.specs.declared.Error.the-variants.{NoPartition}
 use Rattle.header.specs.Header.{headerAt, bytesOf}
 use Rattle.partitions.specs.declared.Partition.{Partition}
 use Rattle.partitions.specs.declared.Checked.{Checked}

@@ -4,8 +4,8 @@ ghost use mathlib.Core.Bool.{true};
 ghost use Rattle.partitions.specs.Walk.{allowedLength, stepAt};
 ghost use Rattle.partitions.specs.Find.{keepFirst, checkOf, indexOf};
 ghost use Rattle.partitions.specs.Answers.{checkAnswer, findAnswer};
+use errors::Error;
 use header::Blocks;
-use header::Error;
 use header::Header;
 use header::Validity;
 

@@ -8,7 +8,7 @@ use lib.Seq.{take-at, drop-at}
 use Rattle.lists.specs.Bytes.{sameBytes}
 use Rattle.lists.proofs.ByteLaws.{same-refl, same-true}
 use Rattle.lists.proofs.Tests.{split, clash}
-use Rattle.header.specs.declared.Error.the-variants.{Repeated}
+use Rattle.errors.specs.declared.Error.the-variants.{Repeated}
 use Rattle.repeats.specs.Pieces.{stands}
 use Rattle.values.specs.Value.{decode, part}
 use Rattle.pairs.specs.declared.Place.{Place}

@@ -5,8 +5,8 @@ use mathlib.Core.List.{List, []}
 use lib.ListN.{length}
 use lib.Dec.{ltb}
 use Rattle.lists.specs.Pasted.{pasted}
-use Rattle.header.specs.declared.Error.{Error}
-use Rattle.header.specs.declared.Error.the-variants.{BadName, NoVariable, NoRoom, ShortBuffer}
+use Rattle.errors.specs.declared.Error.{Error}
+use Rattle.errors.specs.declared.Error.the-variants.{BadName, NoVariable, NoRoom, ShortBuffer}
 use Rattle.names.specs.Name.{goodName}
 use Rattle.pairs.specs.Area.{Pair, pairsBytes, Parse, parsed, faulty, parse}
 use Rattle.variables.specs.Edits.{areaOf, setPair, removePair, normalizePairs, Lookup, found, missing, lookup}

@@ -2,4 +2,3 @@ pub mod Edits
 pub mod Calls
 pub mod Rules
 pub mod Places
-pub mod EditPlaces

@@ -1,4 +1,4 @@
--- What the code of count and read answers, by the place of a pair.
+-- What the code of each call answers, a read by the place of the pair.
 use Prim.Native.Nat.{ℕ, _+_}
 use mathlib.Core.Path.{_≡_}
 use mathlib.Core.List.{List, []}
@@ -10,6 +10,8 @@ use Rattle.variables.specs.declared.Counted.{Counted}
 use Rattle.variables.specs.declared.Counted.the-variants as Counted
 use Rattle.variables.specs.declared.ReadAnswer.{ReadAnswer}
 use Rattle.variables.specs.declared.ReadAnswer.the-variants as ReadAnswer
+use Rattle.variables.specs.declared.Edited.{Edited}
+use Rattle.variables.specs.declared.Edited.the-variants as Edited
 use Rattle.variables.specs.Edits.{Lookup, found, missing}
 use Rattle.variables.specs.Calls.{Reply, done, refused, Outcome, readBy}
 
@@ -36,3 +38,8 @@ countReply (Counted.Refused e) = refused e
 unfoldable pub readReply : ReadAnswer → Reply
 readReply (ReadAnswer.Length n) = done n
 readReply (ReadAnswer.Refused e) = refused e
+
+-- an edit, as a reply
+unfoldable pub editReply : Edited → Reply
+editReply Edited.Done = done 0
+editReply (Edited.Refused e) = refused e

@@ -1,5 +1,5 @@
 // The calls that leave a variable area as it is: count and read; and what every call on it answers.
-use header::Error;
+use errors::Error;
 use names::NameCheck;
 use pairs::Place;
 use pairs::Scanned;

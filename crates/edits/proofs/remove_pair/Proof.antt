@@ -1,7 +1,7 @@
 use mathlib.Core.Path.{sym, _∙_}
 use native.Mathlib.Omega.{arith}
 use denote.Ref.{now}
-use Rattle.variables.specs.EditPlaces.{editReply}
+use Rattle.variables.specs.Places.{editReply}
 use Rattle.edits.proofs.ReplaceLaws.{found-bounds, remove-found, remove-missing}
 use borrow.Author.Needs.{needs}
 use Rattle.edits.proofs.remove_pair.Statement.{statement}

@@ -7,7 +7,7 @@ use denote.Ref.{now}
 use Rattle.lists.specs.Pasted.{pasted}
 use Rattle.pairs.specs.Area.{pairBytes}
 use Rattle.variables.specs.Edits.{canonicalPair}
-use Rattle.variables.specs.EditPlaces.{editReply}
+use Rattle.variables.specs.Places.{editReply}
 use Rattle.edits.specs.Replaced.{tailShifted}
 use Rattle.pairs.proofs.ParseLaws.{length-pair}
 use Rattle.edits.proofs.ReplaceLaws.{no-room, has-room}

@@ -2,7 +2,7 @@ use mathlib.Core.Path.{refl, sym, _∙_}
 use denote.Ref.{now}
 use Rattle.variables.specs.Calls as Calls
 use Rattle.variables.specs.Calls.{wellNamed}
-use Rattle.variables.specs.EditPlaces.{editReply}
+use Rattle.variables.specs.Places.{editReply}
 use Rattle.edits.proofs.ReplaceLaws.{scan-used, edit-misnamed, edit-faulty, edit-parsed}
 use borrow.Author.Needs.{needs}
 use Rattle.edits.proofs.set.Statement.{statement}

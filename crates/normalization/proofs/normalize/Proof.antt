@@ -1,7 +1,7 @@
 -- `normalization::normalize` meets its contract: a fault refuses the call before anything is written.
 use mathlib.Core.Path.{sym, _∙_}
 use denote.Ref.{now}
-use Rattle.variables.specs.EditPlaces.{editReply}
+use Rattle.variables.specs.Places.{editReply}
 use Rattle.normalization.proofs.NormalizeLaws.{scan-parses, normalize-refused, normalize-done}
 use borrow.Author.Needs.{needs}
 use Rattle.normalization.proofs.normalize.Statement.{statement}

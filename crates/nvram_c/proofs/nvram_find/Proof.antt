@@ -5,7 +5,7 @@ use Rattle.nvram_c.proofs.nvram_find.Statement.{statement}
 use Rattle.nvram_c.proofs.nvram_find.Tie as tie
 use Rattle.nvram_c.proofs.nvram_find.Reads as reads
 use Rattle.nvram_c.proofs.nvram_find.Lts as lts
-use Rattle.partitions.proofs.find.Reads as find-reads
+use Rattle.lookup.proofs.find.Reads as find-reads
 use Rattle.partitions.proofs.Found.answer.Reads as answer-reads
 
 find-requires : tie.Need-find-requires

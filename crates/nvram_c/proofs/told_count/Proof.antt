@@ -4,8 +4,8 @@ use Rattle.nvram_c.proofs.told_count.Statement.{statement}
 use Rattle.nvram_c.proofs.told_count.Tie as tie
 use Rattle.nvram_c.proofs.told_count.Reads as reads
 use Rattle.nvram_c.proofs.told_count.Lts as lts
-use Rattle.header.proofs.Error.code.Reads as code-reads
-use Rattle.header.proofs.Error.offset.Reads as offset-reads
+use Rattle.errors.proofs.Error.code.Reads as code-reads
+use Rattle.errors.proofs.Error.offset.Reads as offset-reads
 
 enum-known-answer : tie.Need-enum-known-answer
 enum-known-answer c = search needs

@@ -4,8 +4,8 @@ use Rattle.nvram_c.proofs.told_edit.Statement.{statement}
 use Rattle.nvram_c.proofs.told_edit.Tie as tie
 use Rattle.nvram_c.proofs.told_edit.Reads as reads
 use Rattle.nvram_c.proofs.told_edit.Lts as lts
-use Rattle.header.proofs.Error.code.Reads as code-reads
-use Rattle.header.proofs.Error.offset.Reads as offset-reads
+use Rattle.errors.proofs.Error.code.Reads as code-reads
+use Rattle.errors.proofs.Error.offset.Reads as offset-reads
 
 enum-told : tie.Need-enum-told
 enum-told c = search needs

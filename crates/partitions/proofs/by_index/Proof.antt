@@ -5,7 +5,7 @@ use native.Mathlib.Omega.{arith}
 use lib.ListN.{length}
 use denote.Ref.{now}
 use borrow.Author.Tests.{not-true, not-false}
-use Rattle.header.specs.declared.Error.the-variants.{NoPartition}
+use Rattle.errors.specs.declared.Error.the-variants.{NoPartition}
 use Rattle.partitions.specs.declared.Partition.{Partition}
 use Rattle.partitions.specs.declared.Cursor.{Cursor}
 use Rattle.partitions.specs.declared.Step.the-variants.{Next}

@@ -1,7 +1,7 @@
--- The table of the numbers that a caller may see, and the place answered with each.
+-- The table of the codes that a caller may see (document 01: numbers), and the offset answered with each.
 use Prim.Native.Nat.{ℕ}
-use Rattle.header.specs.declared.Error.{Error}
-use Rattle.header.specs.declared.Error.the-variants.{
+use Rattle.errors.specs.declared.Error.{Error}
+use Rattle.errors.specs.declared.Error.the-variants.{
   ImageLength,
   ZeroLength,
   PastEnd,
