@@ -1,10 +1,9 @@
 -- The text of a listing, as `nvlist` prints it.
 use Prim.Native.Nat.{ℕ, zero, suc, _+_, _/_, _%_}
-use mathlib.Core.Bool.{Bool, true, false, cond, _&&_}
+use mathlib.Core.Bool.{true, false, cond, _&&_}
 use mathlib.Core.List.{List, [], _∷_, _++_}
 use lib.ListN.{length}
 use lib.Dec.{leb, ltb, eqb}
-use Rattle.errors.specs.declared.Error.{Error}
 use Rattle.errors.specs.Errors.{codeOf, offsetOf}
 use Rattle.header.specs.Header.{nameAt}
 use Rattle.partitions.specs.declared.Partition.{Partition}

@@ -1,18 +1,15 @@
 -- One turn of each loop that moves or fills: the piece written so far has one byte or one chunk more.
 use mathlib.Core.Path.{_≡_, refl, sym, ap, _∙_, subst}
-use mathlib.Core.Bool.{_&&_}
-use mathlib.Core.List.{List, [], _∷_, _++_, append-nil}
-use Prim.Native.Nat.{ℕ, zero, suc, _+_, _-_, _<_, _≤_}
-use native.Mathlib.Nat.{add-zero, sub-self}
+use mathlib.Core.List.{List, _∷_, _++_, append-nil}
+use Prim.Native.Nat.{ℕ, _+_, _-_, _<_, _≤_}
+use native.Mathlib.Nat.{add-zero}
 use native.Mathlib.Numerals.{add-one}
 use native.Mathlib.Omega.{arith}
-use lib.Dec.{leb}
 use borrow.Author.Tests.{le-leb, lt-leb}
 use lib.ListN.{length, getD, set, take, drop, replicate, length-take, length-drop, length-replicate, replicate-append-replicate, take-append-drop, drop-of-length-le}
-use lib.Seq.{length-take-le, take-suc, take-all, take-take, take-add, drop-cons, drop-drop, drop-at, getD-drop, getD-take}
+use lib.Seq.{length-take-le, take-all, take-take, take-add, drop-cons, drop-drop, drop-at, getD-drop, getD-take}
 use borrow.Rule.Slice.PartMut.{putMid, midOf, mid-len}
 use Rattle.lists.specs.Pasted.{pasted, movedBytes}
-use Rattle.lists.proofs.Tests.{and-false}
 use Rattle.lists.proofs.PastedLaws.{pasted-none, pasted-first, pasted-more, pasted-under, pasted-last, length-pasted, take-pasted-before, drop-pasted-after, set-after, set-before, getD-after, getD-before, copy-step, part-pasted, part-copied}
 
 pub fill-none : (d : List ℕ) (b : ℕ) → d ≡ pasted d 0 (replicate 0 b)

@@ -17,7 +17,7 @@ use Rattle.pairs.specs.declared.ScanEnd.{ScanEnd}
 use Rattle.pairs.specs.declared.ScanEnd.the-variants.{At, Wrong, Cut}
 use Rattle.pairs.specs.declared.PairAt.{PairAt}
 use Rattle.pairs.specs.declared.PairAt.the-variants as PairAt
-use Rattle.pairs.specs.Scan.{Scan, ends, bad, short, and, scanName, scanValue, Stand, pair, finish, cut, wrongName, wrongEscape, onValue, onName, standAt}
+use Rattle.pairs.specs.Scan.{Scan, ends, bad, short, scanName, scanValue, Stand, pair, finish, cut, wrongName, wrongEscape, onValue, onName, standAt}
 use Rattle.pairs.specs.Places.{endOf, placeOf}
 use Rattle.pairs.proofs.ScanLaws.{and-ends}
 

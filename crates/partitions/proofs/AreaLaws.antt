@@ -1,14 +1,12 @@
 -- A partition that was found lies inside the image, and its data area is a part of it.
 use Prim.Native.Nat.{ℕ, suc, zero, _+_, _-_, _*_, _≤_, _<_}
 use mathlib.Core.Path.{_≡_, ap, subst, refl, sym, _∙_}
-use mathlib.Core.Logic.{_↔_, _⊎_, inl, inr}
+use mathlib.Core.Logic.{_↔_}
 use mathlib.Core.Bool.{Bool, true, false}
 use mathlib.Core.List.{List, [], _∷_}
 use native.Mathlib.Omega.{arith}
-use native.Mathlib.Decide.{decLe}
 use lib.ListN.{length, take, drop, getD, length-drop}
 use lib.Seq.{getD-take, getD-drop, length-take-le}
-use Rattle.lists.proofs.Tests.{clash}
 use Rattle.header.specs.declared.Bytes.{Bytes}
 use Rattle.errors.specs.declared.Error.{Error}
 use Rattle.header.specs.declared.Validity.the-variants.{Valid}

@@ -2,7 +2,7 @@
 use Prim.Native.Nat.{ℕ, _+_, _≤_, _<_}
 use mathlib.Core.Path.{_≡_, ap, refl, sym, _∙_}
 use mathlib.Core.Bool.{true, false}
-use mathlib.Core.List.{List, [], _∷_}
+use mathlib.Core.List.{List}
 use native.Mathlib.Omega.{arith}
 use lib.ListN.{length}
 use Rattle.errors.specs.declared.Error.{Error}
@@ -12,7 +12,7 @@ use Rattle.partitions.specs.declared.Cursor.{Cursor}
 use Rattle.partitions.specs.declared.Step.the-variants.{Next, End, Broken}
 use Rattle.partitions.specs.declared.Checked.{Checked}
 use Rattle.partitions.specs.declared.Checked.the-variants.{Accepted, Refused}
-use Rattle.partitions.specs.Walk.{stepAt, Walk, covered, broken, walk, allowedLength}
+use Rattle.partitions.specs.Walk.{stepAt, Walk, covered, broken, allowedLength}
 use Rattle.partitions.specs.Find.{checkedBy, checkOf}
 use Rattle.partitions.proofs.WalkLaws.{rest, walk-rest, walk-refused, next-bounds, onWalk, loop-next, loop-end, loop-broken}
 

@@ -1,8 +1,8 @@
 -- Accepted exactly when covered, and refused by each of 1 to 5 exactly when its rule says so.
-use Prim.Native.Nat.{ℕ, suc, zero, _+_, _-_, _*_, _≤_, _<_}
+use Prim.Native.Nat.{ℕ, suc, zero, _-_, _≤_, _<_}
 use mathlib.Core.Path.{_≡_, ap, subst, refl, sym, _∙_}
 use mathlib.Core.Logic.{_↔_}
-use mathlib.Core.Bool.{Bool, true, false, _&&_}
+use mathlib.Core.Bool.{true, false, _&&_}
 use mathlib.Core.List.{List, [], _∷_}
 use native.Mathlib.Omega.{arith}
 use lib.ListN.{length}
@@ -12,8 +12,7 @@ use Rattle.lists.specs.Bytes.{AllBytes}
 use Rattle.lists.proofs.Tests.{split, clash, and-true}
 use Rattle.errors.specs.declared.Error.{Error}
 use Rattle.errors.specs.declared.Error.the-variants.{ImageLength}
-use Rattle.header.specs.declared.Validity.the-variants.{Valid}
-use Rattle.header.specs.Header.{headerAt, validityAt}
+use Rattle.header.specs.Header.{headerAt}
 use Rattle.header.specs.Rules.{blocksAt, Sound, Breaks}
 use Rattle.header.proofs.RuleLaws.{valid-exactly, invalid-exactly, sound-valid, breaks-invalid}
 use Rattle.partitions.specs.declared.Partition.{Partition}

@@ -2,10 +2,10 @@
 use Prim.Native.Nat.{ℕ, suc, zero, _+_, _-_, _≤_, _<_}
 use mathlib.Core.Path.{_≡_, ap, refl, sym, _∙_}
 use mathlib.Core.Logic.{_↔_, _⊎_, inl, inr}
-use mathlib.Core.Bool.{Bool, true, false, _&&_}
+use mathlib.Core.Bool.{true, false, _&&_}
 use mathlib.Core.List.{List, [], _∷_, _++_}
 use native.Mathlib.Omega.{arith}
-use lib.ListN.{length, replicate, length-append, length-replicate}
+use lib.ListN.{length, length-append, length-replicate}
 use lib.Dec.{eqb}
 use borrow.Author.Tests.{eq-eqb, eqb-true}
 use Rattle.lists.specs.Bytes.{AllBytes, sameBytes}
@@ -14,15 +14,14 @@ use Rattle.lists.proofs.ByteLaws.{same-refl, same-true}
 use Rattle.errors.specs.declared.Error.{Error}
 use Rattle.errors.specs.declared.Error.the-variants.{NoPartition}
 use Rattle.header.specs.Header.{headerAt, nameAt}
-use Rattle.header.specs.Rules.{Breaks, two, three, four, five}
 use Rattle.header.proofs.RuleLaws.{signature-read, name-read}
 use Rattle.partitions.specs.declared.Partition.{Partition}
 use Rattle.partitions.specs.declared.Found.{Found}
 use Rattle.partitions.specs.declared.Found.the-variants.{At, Refused}
 use Rattle.partitions.specs.Walk.{Walk, covered, broken, walk}
 use Rattle.partitions.specs.Find.{padded, matches, firstMatch, findBy, findOf, atIndex, indexBy, indexOf}
-use Rattle.partitions.specs.Cover.{Accepted, Rejected, one, header, Named, NoneNamed, FirstNamed, Indexed, NotNamed, NotIndexed}
-use Rattle.partitions.proofs.CoverLaws.{Walked, accepts, rejects, walked, accepted-exactly, rejected-exactly, one-cover}
+use Rattle.partitions.specs.Cover.{Accepted, Rejected, header, Named, NoneNamed, FirstNamed, Indexed, NotNamed, NotIndexed}
+use Rattle.partitions.proofs.CoverLaws.{Walked, accepts, rejects, walked, accepted-exactly, rejected-exactly}
 
 pub length-padded : (n : ℕ) (name : List ℕ) → length (padded n name) ≡ length name + (n - length name)
 unfolding padded

@@ -12,7 +12,7 @@ use Rattle.errors.specs.declared.Error.{Error}
 use Rattle.errors.specs.declared.Error.the-variants.{ImageLength}
 use Rattle.header.specs.declared.Validity.{Validity}
 use Rattle.header.specs.declared.Validity.the-variants.{Valid, Invalid}
-use Rattle.header.specs.Header.{headerAt, bytesOf, validityAt}
+use Rattle.header.specs.Header.{headerAt, validityAt}
 use Rattle.header.proofs.ValidityLaws.{valid-nonzero, valid-fits}
 use Rattle.partitions.specs.declared.Partition.{Partition}
 use Rattle.partitions.specs.declared.Cursor.{Cursor}

@@ -1,11 +1,10 @@
 -- The same in relations on the image's bytes: no walk, no fuel, and nothing that computes an answer.
 use Prim.Native.Nat.{ℕ, _+_, _-_, _*_, _%_, _≤_, _<_}
 use mathlib.Core.Path.{_≡_}
-use mathlib.Core.Logic.{_≢_}
 use mathlib.Core.List.{List, [], _∷_, _++_}
 use lib.ListN.{length, take, drop, replicate}
 use Rattle.errors.specs.declared.Error.{Error}
-use Rattle.errors.specs.declared.Error.the-variants.{ImageLength, NoPartition}
+use Rattle.errors.specs.declared.Error.the-variants.{ImageLength}
 use Rattle.header.specs.Header.{byteAt, nameAt}
 use Rattle.header.specs.Rules.{blocksAt, Sound, Breaks}
 use Rattle.partitions.specs.declared.Partition.{Partition}

@@ -1,7 +1,7 @@
 // The test for a second name: the first piece whose name stood before.
 ghost use mathlib.Core.Path.{_≡_};
 ghost use mathlib.Core.Bool.{false};
-ghost use Prim.Native.Nat.{_+_, _<_, _≤_};
+ghost use Prim.Native.Nat.{_+_, _<_};
 ghost use lib.ListN.{length, set};
 ghost use Rattle.lists.specs.Bytes.{sameBytes};
 ghost use Rattle.repeats.specs.Pieces.{nameAt, firstRepeat};

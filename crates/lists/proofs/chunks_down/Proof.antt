@@ -1,7 +1,6 @@
 -- `lists::chunks_down` meets its contract. The invariant: the first k bytes are moved.
-use Prim.Native.Nat.{ℕ, _≤_, _<_, _-_, _+_}
-use mathlib.Core.Path.{_≡_, refl, sym, ap, _∙_}
-use native.Mathlib.Omega.{arith}
+use Prim.Native.Nat.{_≤_, _<_, _-_}
+use mathlib.Core.Path.{_≡_, refl, _∙_}
 use lib.ListN.{length, take, drop}
 use Rattle.lists.specs.Pasted.{pasted}
 use Rattle.lists.proofs.PastedLaws as P

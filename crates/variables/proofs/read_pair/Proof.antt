@@ -1,5 +1,5 @@
 -- `variables::read_pair` meets its contract, by the place of the pair and what is decoded there.
-use mathlib.Core.Path.{_≡_, sym, _∙_}
+use mathlib.Core.Path.{sym, _∙_}
 use Prim.Native.Nat.{_+_, _≤_, _<_}
 use native.Mathlib.Omega.{arith}
 use lib.ListN.{length}
