@@ -27,10 +27,9 @@ use Rattle.partitions.specs.declared.Found.{Found}
 use Rattle.partitions.specs.declared.Found.the-variants.{At, Refused}
 use Rattle.partitions.specs.Walk.{partitionOf, pastOf, pickStep, stepAt, Walk, covered, broken, first, onStep, walkFrom, allowedLength, walk}
 use Rattle.partitions.specs.Find.{checkedBy, checkOf, indexBy, indexOf, matches, pickFound, firstMatch, findBy, findOf, areaOf}
-use Rattle.partitions.specs.Cover.{FirstNamed, areaAt}
+use Rattle.partitions.specs.Cover.{areaAt}
 use Rattle.partitions.proofs.WalkLaws.{View, ends, goes, breaks, view, past-bounds}
 use Rattle.partitions.proofs.AreaLaws.{found-inside}
-use Rattle.partitions.proofs.FoundLaws.{find-first}
 use Rattle.nvram.proofs.AreaBack.{area-long}
 
 -- ---- two images as long with the same headers
@@ -320,10 +319,6 @@ module _ (I : List ℕ) (signature : ℕ) (name : List ℕ) (p : Partition) (e :
         every-append (λ b. b < 256) (take (p .offset + 16) I ++ area) (drop (p .offset + 16 + length area) I)
         (every-append (λ b. b < 256) (take (p .offset + 16) I) area (every-take (λ b. b < 256) (p .offset + 16) I f) g)
         (every-drop (λ b. b < 256) (p .offset + 16 + length area) I f)
-
-    -- the same by the rules
-    pub first-kept : AllBytes I → AllBytes area → FirstNamed (pasted I (p .offset + 16) area) signature name p
-    first-kept f g = find-first (pasted I (p .offset + 16) area) signature name (bytes-kept f g) p .0 find-kept
 
 pub area-bytes : (I : List ℕ) (f : Found) → AllBytes I → AllBytes (areaOf I f)
 unfolding areaOf

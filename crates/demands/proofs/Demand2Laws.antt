@@ -42,6 +42,7 @@ use Rattle.names.specs.Name.{goodName}
 use Rattle.names.specs.Rules.{NameRule}
 use Rattle.names.proofs.NameLaws.{good-name-exactly}
 use Rattle.values.proofs.EncodeLaws.{encode-shortest}
+use Rattle.values.proofs.CanonicalLaws.{canonical-encode}
 use Rattle.pairs.specs.Area.{Pair, pairsBytes, stands, parsed, parse}
 use Rattle.variables.specs.Edits.{areaOf as written, setPair, found, lookup}
 use Rattle.pairs.specs.Rules.{Entry, WellFormed}
@@ -203,6 +204,6 @@ demand-2 I b =
     record {
       accepted = check-accepts I b;
       reads = entry-read I b;
-      reads-back = λ name value buffer v h l. set-read I name value buffer h l;
-      fewest = λ value stored s. encode-shortest s;
+      reads-back = set-read I;
+      fewest = λ value new stored c s. omega (arith, ap length (canonical-encode c), encode-shortest s);
     }

@@ -10,8 +10,7 @@ use Rattle.partitions.specs.declared.Partition.{Partition}
 use Rattle.partitions.specs.declared.Checked.the-variants.{Accepted}
 use Rattle.partitions.specs.Find.{checkOf}
 use Rattle.partitions.specs.Cover.{Counted, FirstNamed, areaAt}
-use Rattle.values.specs.Rules.{Spells}
-use Rattle.values.specs.Value.{encode}
+use Rattle.values.specs.Rules.{Spells, Canonical}
 use Rattle.pairs.specs.Rules.{Entry, WellFormed}
 use Rattle.variables.specs.Rules.{Holds}
 use Rattle.variables.specs.Calls.{Call, set, remove, normalize, read, count}
@@ -60,12 +59,12 @@ pub record Demand2 (I : List ℕ) : Type 0 where
       → Holds name es value → length value ≤ length buffer → (callImage (read name buffer) I .told .code ≡ 0)
       × (callImage (read name buffer) I .told .amount ≡ length value) × (take (length value) (callImage (read name buffer) I .told .buffer) ≡ value)
   -- what we write reads back the same
-  pub reads-back : (name value buffer : List ℕ) → AllBytes value → callImage (set name value) I .told .code ≡ 0 → length value ≤ length buffer
+  pub reads-back : (name value buffer : List ℕ) → callImage (set name value) I .told .code ≡ 0 → length value ≤ length buffer
       → (callImage (read name buffer) (callImage (set name value) I .image) .told .code ≡ 0)
       × (callImage (read name buffer) (callImage (set name value) I .image) .told .amount ≡ length value)
       × (take (length value) (callImage (read name buffer) (callImage (set name value) I .image) .told .buffer) ≡ value)
-  -- in the fewest bytes the rule allows
-  pub fewest : (value stored : List ℕ) → Spells stored value → length (encode value) ≤ length stored
+  -- in the fewest bytes the rule allows: the canonical form, which a set leaves by the table
+  pub fewest : (value new stored : List ℕ) → Canonical value new → Spells stored value → length new ≤ length stored
 
 -- some normalizing stands among the calls
 abbrev pub Normalizes : List Call → Type 0

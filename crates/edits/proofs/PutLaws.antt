@@ -14,9 +14,6 @@ use Rattle.edits.specs.Replaced.{tailShifted}
 
 -- a piece, and one byte right after it
 module _ (d : List ℕ) (at : ℕ) (w : List ℕ) (room : at + length w + 1 ≤ length d) (d₁ : List ℕ) (e₁ : d₁ ≡ pasted d at w) where
-  pub piece-long : length d₁ ≡ length d
-  piece-long = ap length e₁ ∙ length-pasted d at w (omega arith)
-
   pub piece-byte : (b i : ℕ) → i ≡ at + length w → set d₁ i b ≡ pasted d at (w ++ b ∷ [])
   piece-byte b i e = ap (λ (l : List ℕ). set l i b) e₁ ∙ set-after d at w i b (sym e) (omega arith)
 

@@ -52,9 +52,6 @@ ahead-there (b ∷ bs) h =
 -- ---- at the offset r of the first byte from `from` on that is not allowed
 
 module _ (s : List ℕ) (from : ℕ) {r : ℕ} (e : r ≡ from + allowedAhead (drop from s)) where
-  pub end-inside : from ≤ length s → r ≤ length s
-  end-inside h = omega (arith, ahead-short (drop from s), length-drop from s)
-
   pub end-before : (j : ℕ) → from ≤ j → j < r → nameByte (getD s j 0) ≡ true
   end-before j h k =
       let q : from + (j - from) ≡ j = omega arith in

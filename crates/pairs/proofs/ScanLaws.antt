@@ -5,8 +5,7 @@ use mathlib.Core.Bool.{Bool, true, false}
 use mathlib.Core.List.{List, [], _∷_, _++_, append-nil}
 use mathlib.Core.Logic.{_≢_, _⊎_, inl, inr}
 use native.Mathlib.Omega.{arith}
-use lib.ListN.{length, take, drop, length-append}
-use lib.Seq.{take-append-seam, drop-append-add}
+use lib.ListN.{length}
 use lib.Dec.{ltb, eqb}
 use borrow.Author.Tests.{eqb-true, eqb-false, ne-eqb, ltb-true, ltb-false, lt-ltb, le-ltb}
 use Rattle.lists.specs.Bytes.{Every}
@@ -193,23 +192,6 @@ name-scan bs name rest e =
     let n = name-scan-from 0 bs name rest (omega arith) e in
     (n .bytes, record { least = omega (arith, n .least); most = omega (arith, n .most); each = n .allowed })
 
--- where a scan ended, by places: its bytes, and what follows the byte that ended them
-pub record Ended (bs part rest : List ℕ) : Type 0 where
-  pub taken : part ≡ take (length part) bs
-  pub left : rest ≡ drop (length part + 1) bs
-  pub inside : length part < length bs
-
-ended : (mark : ℕ) (bs part rest : List ℕ) → bs ≡ part ++ mark ∷ rest → Ended bs part rest
-ended mark bs part rest e =
-    record {
-      taken = sym (ap (take (length part)) e ∙ take-append-seam part (mark ∷ rest));
-      left = sym (ap (drop (length part + 1)) e ∙ drop-append-add part (mark ∷ rest) 1);
-      inside = omega (arith, ap length e, length-append part (mark ∷ rest));
-    }
-
-pub name-ended : (bs name rest : List ℕ) → scanName 0 bs ≡ ends name rest → Ended bs name rest
-name-ended bs name rest e = ended 0x3D bs name rest (name-scan bs name rest e .0)
-
 -- ---- a stored value, byte by byte; after: the byte before was an escape's 0xFF
 
 pub value-none : (after : Bool) (k : ℕ) → scanValue after k [] ≡ short
@@ -357,9 +339,6 @@ scan-value {stored} k rest e = scan-value-from false k stored rest e
 pub value-scan : (k : ℕ) (bs stored rest : List ℕ) → scanValue false k bs ≡ ends stored rest → (bs ≡ stored ++ 0x00 ∷ rest) × (spelled stored ≡ true)
 unfolding spelled
 value-scan k bs stored rest e = let v = value-scan-from false k bs stored rest e in (v .bytes, v .valid)
-
-pub value-ended : (k : ℕ) (bs stored rest : List ℕ) → scanValue false k bs ≡ ends stored rest → Ended bs stored rest
-value-ended k bs stored rest e = ended 0x00 bs stored rest (value-scan k bs stored rest e .0)
 
 -- ---- a stored value that the area's end cuts off
 

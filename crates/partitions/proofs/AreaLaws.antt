@@ -17,7 +17,6 @@ use Rattle.partitions.specs.declared.Step.{Step}
 use Rattle.partitions.specs.declared.Step.the-variants.{Next, End, Broken}
 use Rattle.partitions.specs.declared.Found.{Found}
 use Rattle.partitions.specs.declared.Found.the-variants.{At, Refused}
-use Rattle.partitions.specs.Answers.{findAnswer}
 use Rattle.partitions.specs.Walk.{partitionOf, pastOf, stepAt, Walk, covered, broken, first, onStep, walkFrom, allowedLength, pickWalk, walk}
 use Rattle.partitions.specs.Find.{matches, firstMatch, findBy, findOf, areaOf}
 use Rattle.partitions.proofs.WalkLaws.{View, ends, goes, breaks, view}
@@ -91,12 +90,6 @@ found-inside image signature name p e = subst (FoundInside image) e (find-inside
 
 -- the same of what the code has found
 module _ (image : List ℕ) (signature : ℕ) (name : List ℕ) (f : Found) (ef : f ≡ findOf image signature name) where
-  pub found-code : findAnswer f .code ≡ findAnswer (findOf image signature name) .code
-  found-code = ap (λ (x : Found). findAnswer x .code) ef
-
-  pub found-offset : findAnswer f .offset ≡ findAnswer (findOf image signature name) .offset
-  found-offset = ap (λ (x : Found). findAnswer x .offset) ef
-
   module _ (p : Partition) (ep : f ≡ At p) where
     module _ (b : Bytes) (eb : b ≡ bytesOf (p .blocks)) where
       pub found-part : (16 ≤ b .0) × (p .offset + b .0 ≤ length image)

@@ -108,7 +108,7 @@ ones-run : {n : ℕ} {x : List ℕ} → Escapes 128 n x → runBytes 255 n ≡ x
 unfolding mark
 ones-run e = escapes-run 255 e
 
-canonical-encode : {v w : List ℕ} → Canonical v w → encode v ≡ w
+pub canonical-encode : {v w : List ℕ} → Canonical v w → encode v ≡ w
 canonical-encode nothing = encode-empty
 canonical-encode (itself {b = b} {v = v} lo hi r) =
     encode-itself b v (cc (ne-eqb b 0 (omega arith), ne-eqb b 255 (omega arith))) ∙ ap (λ (w : List ℕ). b ∷ w) (canonical-encode r)

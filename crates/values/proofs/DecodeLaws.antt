@@ -140,20 +140,6 @@ spelled-spells (b ∷ c ∷ s) h e =
 pub spells-exactly : (s v : List ℕ) → AllBytes s → Spells s v ↔ ((spelled s ≡ true) × (decode s ≡ v))
 spells-exactly s v h = (λ r. (spells-spelled r, spells-decode r), λ e. rw (e .1) at (spelled-spells s h (e .0)))
 
--- NO 0x00 stands in what is spelled
-pub spelled-no-zero : (s : List ℕ) → spelled s ≡ true → Every (λ b. b ≢ 0) s
-spelled-no-zero [] e = tt
-spelled-no-zero (b ∷ []) e =
-    split (eqb b 255)
-    (λ t. absurd (cut-spelled (rw (eqb-true b 255 t) at e)))
-    (λ t. (plain-spelled b [] (eqb-false b 255 t) e .some, tt))
-spelled-no-zero (b ∷ c ∷ s) e =
-    split (eqb b 255)
-    (λ t. let q = eqb-true b 255 t in
-    let p = escape-spelled c s (rw q at e) in
-    ((λ z. omega arith), (p .some, spelled-no-zero s (p .left))))
-    (λ t. let p = plain-spelled b (c ∷ s) (eqb-false b 255 t) e in (p .some, spelled-no-zero (c ∷ s) (p .left)))
-
 run-below : (c : ℕ) → runByte c < 256
 unfolding runByte
 run-below c = split (ltb c 128) (λ t. rw t (omega arith)) (λ t. rw t (omega arith))

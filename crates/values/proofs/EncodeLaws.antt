@@ -9,12 +9,12 @@ use native.Mathlib.Nat.{add-zero}
 use lib.ListN.{length, replicate, length-append}
 use lib.Dec.{eqb, ltb}
 use borrow.Author.Tests.{eqb-true, eqb-false, eq-eqb, ne-eqb, ltb-true, ltb-false}
-use Rattle.lists.specs.Bytes.{Every, AllBytes}
+use Rattle.lists.specs.Bytes.{AllBytes}
 use Rattle.lists.proofs.Tests.{split, clash}
 use Rattle.values.specs.Value.{runByte, run, decode, spelled, mark, fullEscapes, restEscape, runBytes, escaped, encodeFrom, encode}
 use Rattle.values.specs.Rules.{Spells, nothing, itself, zeros, ones}
 use Rattle.lists.proofs.ListLaws.{replicate-two, replicate-snoc, every-append}
-use Rattle.values.proofs.DecodeLaws.{run-low, run-high, decode-none, decode-plain, decode-escape, run-zeros, run-ones, spelled-plain, spelled-escape, empty-spelled, spells-exactly, spelled-no-zero}
+use Rattle.values.proofs.DecodeLaws.{run-low, run-high, decode-none, decode-plain, decode-escape, run-zeros, run-ones, spelled-plain, spelled-escape, empty-spelled, spells-exactly}
 
 -- ---- a byte that is escaped
 
@@ -229,10 +229,6 @@ bytes-encode v h = bytes-from 0 0 v h
 -- and by the rule
 pub spells-encode : (v : List ℕ) → AllBytes v → Spells (encode v) v
 spells-encode v h = spells-exactly (encode v) v (bytes-encode v h) .1 (spelled-encode v, decode-encode v)
-
--- 0x00 DOES NOT STAND IN IT
-pub encode-no-zero : (v : List ℕ) → Every (λ b. b ≢ 0) (encode v)
-encode-no-zero v = spelled-no-zero (encode v) (spelled-encode v)
 
 -- ---- it is short
 
