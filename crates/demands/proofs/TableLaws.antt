@@ -1,4 +1,4 @@
--- DEMAND 1: each request answers exactly by the table of numbers.
+-- DEMAND 1: each request answers exactly by the table of codes.
 use Prim.Native.Nat.{ℕ}
 use mathlib.Core.Path.{_≡_, refl, subst}
 use mathlib.Core.Logic.{_≢_}
@@ -11,7 +11,7 @@ use Rattle.demands.specs.Demands.{RequestBytes, Demand1}
 use Rattle.demands.proofs.TableCalls.{row-seen}
 use Rattle.demands.proofs.TableRows.{seen-row}
 
--- what every number from 1 up leaves
+-- what every code from 1 up leaves
 record Untouched (I : List ℕ) (r : Request) (s : Seen) : Type 0 where
   image : s .image ≡ I
   buffer : s .buffer ≡ lends r

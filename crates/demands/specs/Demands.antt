@@ -44,7 +44,7 @@ CallsBytes (call ∷ calls) = CallBytes call × CallsBytes calls
 pub record Demand1 (r : Request) (I : List ℕ) : Type 0 where
   -- the table's row holds of exactly what the call gives
   pub exactly : (s : Seen) → Answers I r s ↔ (seen r I ≡ s)
-  -- every number from 1 up leaves image and buffer as they were, and answers nothing else
+  -- every code from 1 up leaves image and buffer as they were, and answers nothing else
   pub image-kept : seen r I .code ≢ 0 → seen r I .image ≡ I
   pub buffer-kept : seen r I .code ≢ 0 → seen r I .buffer ≡ lends r
   pub nothing-told : seen r I .code ≢ 0 → (seen r I .amount ≡ 0) × (seen r I .header ≡ 0) × (seen r I .blocks ≡ 0) × (seen r I .signature ≡ 0)

@@ -61,7 +61,7 @@ pub record Stepped : Type 0 where
   pub told : Answer
   pub model : Model
 
--- code, length or count, and buffer; the offset is the table's, 0 for each number that a well-formed area meets
+-- code, length or count, and buffer; the offset is the table's, 0 for each code that a well-formed area meets
 abbrev pub says : ℕ → ℕ → List ℕ → Answer
 says code amount buffer = record { code = code; offset = 0; amount = amount; buffer = buffer }
 

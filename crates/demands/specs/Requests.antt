@@ -37,7 +37,7 @@ lends (partition n) = []
 lends (find signature name) = []
 lends (area signature name) = []
 
--- a number from 1 up: nothing else is answered, and buffer and image are as they were
+-- a code from 1 up: nothing else is answered, and buffer and image are as they were
 abbrev pub refuses : Request → List ℕ → ℕ → ℕ → Seen
 refuses r I code offset =
     record { code = code; offset = offset; amount = 0; header = 0; blocks = 0; signature = 0; part = []; buffer = lends r; image = I }

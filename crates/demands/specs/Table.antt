@@ -1,4 +1,4 @@
--- The table of numbers as one relation: a row for each number, its premises in the order of checks, in relations on bytes.
+-- The table of codes (document 01: numbers) as one relation: a row for each, its premises in the order of checks, in relations on bytes.
 -- Nothing here computes an answer, and nothing that computes an answer is used here.
 use Prim.Native.Nat.{ℕ, _+_, _*_, _≤_, _<_}
 use mathlib.Core.Path.{_≡_}

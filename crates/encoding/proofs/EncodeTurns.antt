@@ -1,4 +1,4 @@
--- The turns of the loops that encode: at the place i of the value, and at the escape k of a run.
+-- The turns of the loops that encode: at the offset i of the value, and at the escape k of a run.
 use Prim.Native.Nat.{ℕ, suc, _+_, _-_, _*_, _/_, _%_, _≤_, _<_}
 use mathlib.Core.Path.{_≡_, refl, sym, ap, _∙_}
 use mathlib.Core.Bool.{true, false}

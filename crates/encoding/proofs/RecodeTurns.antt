@@ -1,4 +1,4 @@
--- The turns of the loop that makes a stored value canonical in place: at the place i of the area.
+-- The turns of the loop that makes a stored value canonical in place: at the offset i of the area.
 use Prim.Native.Nat.{ℕ, _+_, _-_, _%_, _≤_, _<_}
 use mathlib.Core.Path.{_≡_, refl, sym, ap, _∙_}
 use mathlib.Core.Bool.{true, false}

@@ -1,4 +1,4 @@
--- The turns of the loop that tests the spelling: at the place i of the stored bytes.
+-- The turns of the loop that tests the spelling: at the offset i of the stored bytes.
 use Prim.Native.Nat.{ℕ, _+_, _-_, _%_, _≤_, _<_}
 use mathlib.Core.Path.{_≡_, refl, sym, ap, _∙_}
 use mathlib.Core.Bool.{true, false}

@@ -19,7 +19,7 @@ fn near_end(from: usize, len: usize) -> usize
     if len - from < 16 { len } else { from + 16 }
 }
 
-// The first place from `from` on where b or c stands, or the end: most are near, and the nearest bytes are looked at one by one.
+// The first offset from `from` on where b or c stands, or the end: most are near, and the nearest bytes are looked at one by one.
 fn plain_end(s: &[u8], from: usize, b: u8, c: u8) -> usize
     requires { ⌜ from ≤ length (now s) ⌝ }
     ensures { λ r. ⌜ r ≡ from + untilEither b c (drop from (now (s .entry))) ⌝ }
@@ -82,7 +82,7 @@ fn is_escaped(x: u8) -> bool
     x == 255
 }
 
-// The place after the longest run of b that starts at `from`.
+// The offset after the longest run of b that starts at `from`.
 fn run_end(value: &[u8], from: usize, b: u8) -> usize
     ensures { λ r. ⌜ r ≡ from + leading b (drop from (now (value .entry))) ⌝ }
 {
@@ -116,7 +116,7 @@ fn put_escape(buffer: &mut [u8], at: usize, c: u8)
     buffer[at + 1] = c;
 }
 
-// Writes the escapes of a run of n times b, and answers the place after them.
+// Writes the escapes of a run of n times b, and answers the offset after them.
 fn put_run(buffer: &mut [u8], at: usize, b: u8, n: usize) -> usize
     requires { ⌜ at + length (runBytes b n) ≤ length (now buffer) ⌝ }
     ensures { λ r. ⌜ r ≡ at + length (runBytes b n) ⌝ }
@@ -207,7 +207,7 @@ pub fn encode(value: &[u8], buffer: &mut [u8]) -> Written
     Written::Length(n)
 }
 
-// Moves the n bytes at `from` to a place that is not after it; most stay where they are.
+// Moves the n bytes at `from` to an offset that is not after it; most stay where they are.
 fn move_piece(area: &mut [u8], from: usize, to: usize, n: usize)
     requires { ⌜ (to ≤ from) × (from + n ≤ length (now area)) ⌝ }
     ensures { λ _. ⌜ now (area .exit) ≡ pasted (now (area .entry)) to (take n (drop from (now (area .entry)))) ⌝ }
@@ -218,7 +218,7 @@ fn move_piece(area: &mut [u8], from: usize, to: usize, n: usize)
     lists::move_bytes(area, from, to, n);
 }
 
-// Writes the canonical form of the value stored from `from` up to `to` at `at`, and answers the place after it.
+// Writes the canonical form of the value stored from `from` up to `to` at `at`, and answers the offset after it.
 // A run of n times b is open: at most 127, so that a longer one is written as it is read.
 fn recode_to(area: &mut [u8], from: usize, to: usize, at: usize) -> usize
     requires { ⌜ recodable (now area) from to at ≡ true ⌝ }
@@ -261,7 +261,7 @@ fn recode_to(area: &mut [u8], from: usize, to: usize, at: usize) -> usize
 }
 
 // Makes the value stored from `from` up to `to` canonical, at `at`, which is not after it; answers its new length.
-// Where the places are out of order or the bytes stand for no value, nothing is changed.
+// Where the offsets are out of order or the bytes stand for no value, nothing is changed.
 pub fn recode(area: &mut [u8], from: usize, to: usize, at: usize) -> Written
     ensures { λ r. ⌜ r ≡ recodedOf (now (area .entry)) from to at ⌝ }
     ensures { λ _. ⌜ now (area .exit) ≡ recodedIn (now (area .entry)) from to at ⌝ }

@@ -18,7 +18,7 @@ use Rattle.errors.specs.declared.Error.the-variants.{
   ShortBuffer,
 }
 
--- the number of a refused call (document 01: number)
+-- the code of a refused call (document 01: number)
 abbrev pub codeOf : Error → ℕ
 codeOf ImageLength = 1
 codeOf (ZeroLength at) = 2

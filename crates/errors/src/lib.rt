@@ -1,8 +1,8 @@
-// The errors of every call: the numbers that a caller may see, and the offset answered with each.
+// The errors of every call: the codes that a caller may see, and the offset answered with each.
 ghost use mathlib.Core.Path.{_≡_};
 ghost use Rattle.errors.specs.Errors.{codeOf, offsetOf};
 
-// A refused call: one case for each number of the table, with the offset where the table gives one.
+// A refused call: one case for each code of the table, with the offset where the table gives one.
 pub enum Error {
     // 1: the image's length is outside the rule.
     ImageLength,
@@ -35,7 +35,7 @@ pub enum Error {
 }
 
 impl Error {
-    // The number that a caller sees.
+    // The code that a caller sees.
     pub fn code(self) -> u32
         ensures { λ r. ⌜ r ≡ codeOf self ⌝ }
     {

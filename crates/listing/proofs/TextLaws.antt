@@ -112,7 +112,7 @@ invalid-place image at e q =
     place-by (eqb (h .length .0) 0) (ltb (length image - at) (bytesOf (h .length) .0)) (not (eqb (h .checksum) (sumcheck (summed h))))
     (eqb (sumcheck (summed h)) 0) at e q
 
--- what a walk from an offset finds: lines of at most 28 bytes for each block, or a place inside the image
+-- what a walk from an offset finds: lines of at most 28 bytes for each block, or an offset inside the image
 data Within (image : List ℕ) (at : ℕ) : Walk → Type 0 where
   fine : {ps : List Partition} → 4 * length (lines image ps) ≤ 7 * (length image - at) → 16 * blocksSum ps ≤ length image - at → Within image at (covered ps)
   stops : {e : Error} → offsetOf e ≤ length image → Within image at (broken e)

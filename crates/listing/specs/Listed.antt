@@ -15,7 +15,7 @@ abbrev pub pickListed : Bool → Listed → Listed → Listed
 pickListed true a b = a
 pickListed false a b = b
 
--- the text's length where the buffer has room for it; else number 14
+-- the text's length where the buffer has room for it; else code 14
 unfoldable pub listedOf : List ℕ → ℕ → Listed
 listedOf text room = pickListed (leb (length text) room) (Written (length text)) (Refused ShortBuffer)
 

@@ -66,7 +66,7 @@ fn decimal_len(n: usize) -> usize
     len
 }
 
-// Writes a number in decimal, the last digit first; answers the place after it.
+// Writes a number in decimal, the last digit first; answers the offset after it.
 fn put_decimal(text: &mut [u8], at: usize, n: usize) -> usize
     requires { ⌜ at + length (decimal n) ≤ length (now text) ⌝ }
     ensures { λ r. ⌜ Put (now (text .entry)) at (decimal n) r (now (text .exit)) ⌝ }
@@ -83,7 +83,7 @@ fn put_decimal(text: &mut [u8], at: usize, n: usize) -> usize
     end
 }
 
-// Writes a byte; answers the place after it.
+// Writes a byte; answers the offset after it.
 fn put_byte(text: &mut [u8], at: usize, b: u8) -> usize
     requires { ⌜ at + 1 ≤ length (now text) ⌝ }
     ensures { λ r. ⌜ Put (now (text .entry)) at (b ∷ []) r (now (text .exit)) ⌝ }
@@ -92,7 +92,7 @@ fn put_byte(text: &mut [u8], at: usize, b: u8) -> usize
     at + 1
 }
 
-// Writes a number in decimal and a space; answers the place after them.
+// Writes a number in decimal and a space; answers the offset after them.
 fn put_field(text: &mut [u8], at: usize, n: usize) -> usize
     requires { ⌜ at + length (decimal n) + 1 ≤ length (now text) ⌝ }
     ensures { λ r. ⌜ Put (now (text .entry)) at (decimal n ++ 0x20 ∷ []) r (now (text .exit)) ⌝ }
@@ -101,7 +101,7 @@ fn put_field(text: &mut [u8], at: usize, n: usize) -> usize
     put_byte(text, end, b' ')
 }
 
-// Writes a piece; answers the place after it.
+// Writes a piece; answers the offset after it.
 fn put(text: &mut [u8], at: usize, piece: &[u8]) -> usize
     requires { ⌜ at + length (now piece) ≤ length (now text) ⌝ }
     ensures { λ r. ⌜ Put (now (text .entry)) at (now (piece .entry)) r (now (text .exit)) ⌝ }
@@ -119,7 +119,7 @@ fn hex_digit(n: u8) -> u8
     if n < 10 { 48 + n } else { 55 + n }
 }
 
-// Writes a byte in two hex digits; answers the place after them.
+// Writes a byte in two hex digits; answers the offset after them.
 fn put_hex(text: &mut [u8], at: usize, b: u8) -> usize
     requires { ⌜ at + 2 ≤ length (now text) ⌝ }
     ensures { λ r. ⌜ Put (now (text .entry)) at (hexByte b) r (now (text .exit)) ⌝ }
@@ -163,7 +163,7 @@ fn header_name_len(name: &[u8; 12]) -> usize
     name_len(name)
 }
 
-// Writes a name as it is shown; answers the place after it.
+// Writes a name as it is shown; answers the offset after it.
 fn put_name(text: &mut [u8], at: usize, name: &[u8]) -> usize
     requires { ⌜ at + length (shownName (now name)) ≤ length (now text) ⌝ }
     ensures { λ r. ⌜ Put (now (text .entry)) at (shownName (now (name .entry))) r (now (text .exit)) ⌝ }
@@ -195,7 +195,7 @@ fn line_len(image: &[u8], p: Partition) -> usize
     place + blocks + header_name_len(&name) + 6
 }
 
-// Writes a partition's line; answers the place after it.
+// Writes a partition's line; answers the offset after it.
 fn put_line(text: &mut [u8], start: usize, image: &[u8], p: Partition) -> usize
     requires { ⌜ start + length (line (now image) p) ≤ length (now text) ⌝ }
     ensures { λ r. ⌜ Put (now (text .entry)) start (line (now (image .entry)) p) r (now (text .exit)) ⌝ }
@@ -235,7 +235,7 @@ fn measure(image: &[u8]) -> Measured
     }
 }
 
-// Writes the lines of an accepted image; answers the place after them.
+// Writes the lines of an accepted image; answers the offset after them.
 fn put_lines(text: &mut [u8], start: usize, image: &[u8]) -> usize
     requires { ⌜ Covered (now image) ⌝ }
     requires { ⌜ start + length (linesOf (now image)) ≤ length (now text) ⌝ }

@@ -1,4 +1,4 @@
--- A list is written to d from the place at, piece by piece; that there is room is shown at each piece. The list is `all`, and rest is to come.
+-- A list is written to d from the offset at, piece by piece; that there is room is shown at each piece. The list is `all`, and rest is to come.
 use mathlib.Core.Path.{_≡_, refl, sym, ap, _∙_}
 use mathlib.Core.List.{List, [], _∷_, _++_, append-assoc, append-nil}
 use Prim.Native.Nat.{ℕ, _+_, _≤_}

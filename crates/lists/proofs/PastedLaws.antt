@@ -123,7 +123,7 @@ part-pasted d a e last h k n =
     ap (λ (l : List ℕ). take a d ++ (last ++ l)) (post-is a e d h ∙ ap (λ (m : ℕ). drop m d) s)
     ∙ sym (append-assoc (take a d) last (drop (a + length last) d))
 
--- the byte of w at j, written to its place i, after those before it
+-- the byte of w at j, written to its offset i, after those before it
 pub copy-step : (d : List ℕ) (at : ℕ) (w : List ℕ) (j i : ℕ) → at + j ≡ i → j < length w → i < length d
     → set (pasted d at (take j w)) i (getD w j 0) ≡ pasted d at (take (j + 1) w)
 copy-step d at w j i e h k =

@@ -1,4 +1,4 @@
--- What the code tells of an area: number and offset 0 where the partition was found, and those of the error where not.
+-- What the code tells of an area: code and offset 0 where the partition was found, and those of the error where not.
 use Prim.Native.Nat.{ℕ}
 use mathlib.Core.Path.{_≡_, ap, sym, _∙_}
 use mathlib.Core.List.{List, []}

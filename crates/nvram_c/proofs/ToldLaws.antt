@@ -1,4 +1,4 @@
--- The numbers of each answer.
+-- The code, offset and amount of each answer.
 use Prim.Native.Nat.{ℕ}
 use mathlib.Core.Path.{_≡_, refl, sym, ap, _∙_}
 use mathlib.Core.List.{List}

@@ -1,4 +1,4 @@
--- The numbers of an answer, as the functions of the C boundary return and store them.
+-- The code, offset and amount of an answer, as the functions of the C boundary return and store them.
 use Rattle.nvram.specs.Calls.{Answer}
 use Rattle.nvram_c.specs.declared.Told.{Told}
 

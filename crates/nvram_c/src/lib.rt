@@ -14,7 +14,7 @@ ghost use Rattle.listing.specs.Text.{listingText};
 ghost use Rattle.listing.specs.Listed.{listedOf, listedIn, listAnswer};
 ghost use Rattle.nvram_c.specs.Told.{toldOf};
 
-// The numbers of an answer: its code, its offset, and a length or count.
+// The code, offset and amount of an answer: its code, its offset, and a length or count.
 struct Told {
     code: u32,
     offset: usize,

@@ -23,7 +23,7 @@ use Rattle.pairs.proofs.ParseLaws.{Good, none, more, length-whole, leng
 use Rattle.pairs.proofs.StandsLaws.{names, stands-first, stands-other}
 use Rattle.pairs.proofs.EntryLaws.{entriesOf, sizes-pairs, names-entries, in-exactly, good-each, good-once, pairs-of, of-pairs, once-good}
 
--- ---- the names before a place
+-- ---- the names before an offset
 
 -- the names seen after more pairs
 abbrev pub seenAfter : List (List ℕ) → List Pair → List (List ℕ)
@@ -108,7 +108,7 @@ faulty-parses area e f =
 
 -- ---- from the parse to the rules
 
--- what stops a parse at a place: at is its offset, seen are the names before
+-- what stops a parse at the offset at, seen are the names before
 data Stops (past at : ℕ) (seen : List (List ℕ)) : List ℕ → Error → Type 0 where
   at-end : {rest : List ℕ} → Standing rest cut → Stops past at seen rest (AreaEnd past)
   at-name : {rest : List ℕ} {k : ℕ} → Standing rest (wrongName k) → Stops past at seen rest (StoredName (at + k))

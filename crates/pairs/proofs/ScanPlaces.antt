@@ -1,4 +1,4 @@
--- Laws of the place where a scan ends: the code's turns, byte by byte, and the pieces that a scan takes off.
+-- Laws of the offset where a scan ends: the code's turns, byte by byte, and the pieces that a scan takes off.
 use Prim.Native.Nat.{ℕ, zero, suc, _+_, _-_, _%_, _<_, _≤_}
 use mathlib.Core.Path.{_≡_, refl, sym, ap, subst, _∙_}
 use mathlib.Core.Bool.{Bool, true, false, _||_, and-false}

@@ -44,7 +44,7 @@ pub record WellFormed (es : List Entry) (area : List ℕ) : Type 0 where
   pub pairs : Pairs es area (0x00 ∷ padding)
   pub once : Once es
 
--- a byte of a name that decides number 8, after k bytes that are allowed
+-- a byte of a name that decides code 8, after k bytes that are allowed
 pub data BadByte (k b : ℕ) : Type 0 where
   not-allowed : b ≢ 0x3D → ¬ (NameByte b) → BadByte k b
   equals-at-once : b ≡ 0x3D → k ≡ 0 → BadByte k b

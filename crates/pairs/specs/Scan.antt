@@ -37,7 +37,7 @@ scanValue after k [] = short
 scanValue true k (c ∷ bs) = elim (eqb c 0x00 || eqb c 0x80) [ true ↦ bad k | false ↦ and c (scanValue false (k + 1) bs) ]
 scanValue false k (b ∷ bs) = elim (eqb b 0x00) [ true ↦ ends [] bs | false ↦ and b (scanValue (eqb b 0xFF) (k + 1) bs) ]
 
--- a pair: its name, its stored value and what follows its 0x00; the 0x00 that ends the pairs; or number 7, or 8 or 9 so many bytes further on
+-- a pair: its name, its stored value and what follows its 0x00; the 0x00 that ends the pairs; or code 7, or 8 or 9 so many bytes further on
 pub data Stand : Type 0 where
   pair : List ℕ → List ℕ → List ℕ → Stand
   finish : Stand

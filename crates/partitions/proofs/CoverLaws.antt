@@ -142,7 +142,7 @@ module _ (image : List ℕ) (bytes : AllBytes image) where
   rejected-broken (one q) = walk-refused image (not-length (length image) q)
   rejected-broken (header l c i x) = walk-rest image (rule-length _ l) ∙ cover-broken c i x
 
-  -- refused by a number at a place exactly when a cover reaches that place and that rule is the first one broken there
+  -- refused by a code at an offset exactly when a cover reaches that offset and that rule is the first one broken there
   pub rejected-exactly : (e : Error) → (walk image ≡ broken e) ↔ Rejected image e
   rejected-exactly e = (go (walk image) walked, rejected-broken)
     where

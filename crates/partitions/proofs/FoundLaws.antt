@@ -1,4 +1,4 @@
--- What finding a partition answers, exactly: the first of its name, the one of its index, or the number that refuses it.
+-- What finding a partition answers, exactly: the first of its name, the one of its index, or the error that refuses it.
 use Prim.Native.Nat.{ℕ, suc, zero, _+_, _-_, _≤_, _<_}
 use mathlib.Core.Path.{_≡_, ap, refl, sym, _∙_}
 use mathlib.Core.Logic.{_↔_, _⊎_, inl, inr}
@@ -120,7 +120,7 @@ module _ (image : List ℕ) (signature : ℕ) (name : List ℕ) where
         there (covered ps) (accepts a) e = of-match ps a (firstMatch image signature name ps) (match ps) e
         there (broken x) (rejects r) e = clash (cc)
 
-    -- it refuses as the check does, or by number 6 exactly when the image is covered and no partition matches
+    -- it refuses as the check does, or by code 6 exactly when the image is covered and no partition matches
     pub find-refuses : (e : Error) → (findOf image signature name ≡ Refused e) ↔ (Rejected image e ⊎ ((e ≡ NoPartition) × NotNamed image signature name))
     unfolding findOf findBy
     find-refuses e = (there (walk image) (walked image bytes), back)
@@ -195,7 +195,7 @@ module _ (image : List ℕ) (bytes : AllBytes image) (n : ℕ) where
       there (covered ps) (accepts a) e = of-pick ps a (atIndex n ps) (pick n ps) e
       there (broken x) (rejects r) e = clash (cc)
 
-  -- it refuses as the check does, or by number 6 exactly when the image is covered and has no such index
+  -- it refuses as the check does, or by code 6 exactly when the image is covered and has no such index
   pub index-refuses : (e : Error) → (indexOf image n ≡ Refused e) ↔ (Rejected image e ⊎ ((e ≡ NoPartition) × NotIndexed image n))
   unfolding indexOf indexBy
   index-refuses e = (there (walk image) (walked image bytes), back)

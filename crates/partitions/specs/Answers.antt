@@ -1,4 +1,4 @@
--- The numbers and values that a caller sees in each answer; with every code from 1 up the values are 0.
+-- The code, the offset and the values that a caller sees in each answer; with every code from 1 up the values are 0.
 use Rattle.errors.specs.Errors.{codeOf, offsetOf}
 use Rattle.partitions.specs.declared.CheckAnswer.{CheckAnswer}
 use Rattle.partitions.specs.declared.Checked.{Checked}

@@ -73,13 +73,13 @@ pub record Indexed (image : List ℕ) (n : ℕ) (p : Partition) : Type 0 where
   pub accepted : Accepted image (before ++ p ∷ after)
   pub counted : length before ≡ n
 
--- number 6: the image is accepted, and no partition is so named
+-- code 6: the image is accepted, and no partition is so named
 pub record NotNamed (image : List ℕ) (signature : ℕ) (name : List ℕ) : Type 0 where
   pub all : List Partition
   pub accepted : Accepted image all
   pub unnamed : NoneNamed image signature name all
 
--- number 6: the image is accepted, and has no more partitions than the index
+-- code 6: the image is accepted, and has no more partitions than the index
 pub record NotIndexed (image : List ℕ) (n : ℕ) : Type 0 where
   pub all : List Partition
   pub accepted : Accepted image all

@@ -22,7 +22,7 @@ checkedBy (broken e) = Rejected e
 unfoldable pub checkOf : List ℕ → Checked
 checkOf image = checkedBy (walk image)
 
--- the partition of an index from 0; number 6 where there is none
+-- the partition of an index from 0; code 6 where there is none
 unfoldable pub atIndex : ℕ → List Partition → Found
 atIndex n [] = Refused NoPartition
 atIndex zero (p ∷ ps) = At p
@@ -53,7 +53,7 @@ abbrev pub keepFirst : Found → Bool → Partition → Found
 keepFirst (At q) wanted p = At q
 keepFirst (Refused e) wanted p = pickFound wanted (At p) (Refused e)
 
--- the first in image order that matches; number 6 where none does
+-- the first in image order that matches; code 6 where none does
 unfoldable pub firstMatch : List ℕ → ℕ → List ℕ → List Partition → Found
 firstMatch image signature name [] = Refused NoPartition
 firstMatch image signature name (p ∷ ps) =

@@ -35,7 +35,7 @@ empty-block {l} {links} {starts} {from} {best} t d h b s = record {
   apart = record { differ = λ p q a b c u v e. d .differ p q a b (omega arith) u v e };
 }
 
--- the name at `at` stands at no start below mid: one place more is distinct
+-- the name at `at` stands at no start below mid: one start more is distinct
 distinct-next : {l starts : List ℕ} {k from mid best at r : ℕ} → Holds l starts k from mid → Distinct l from best → Distinct l mid at
     → at < best → mid ≤ at → Next l at r → ((i : ℕ) → i < k → nameAt l (getD starts i 0) ≡ nameAt l at → ⊥) → Distinct l mid r
 distinct-next {l} {starts} {k} {from} {mid} {best} {at} {r} hs d m h o n miss = record {
@@ -50,7 +50,7 @@ distinct-next {l} {starts} {k} {from} {mid} {best} {at} {r} hs d m h o n miss = 
       (λ w. absurd (n .none q (omega (arith, ltb-false q at t)) c v)));
 }
 
--- the same where the place itself joins the block
+-- the same where the start itself joins the block
 distinct-grow : {l starts : List ℕ} {k from best at r : ℕ} → Holds l starts k from at → Distinct l from best → Distinct l at at
     → at < best → Next l at r → ((i : ℕ) → i < k → nameAt l (getD starts i 0) ≡ nameAt l at → ⊥) → Distinct l r r
 distinct-grow {l} {starts} {k} {from} {best} {at} {r} hs d m h n miss =

@@ -1,4 +1,4 @@
--- Laws of the first repeat: what the places say is what the definition says.
+-- Laws of the first repeat: what the offsets say is what the definition says.
 use Prim.Native.Nat.{ℕ, suc, _+_, _-_, _<_, _≤_}
 use mathlib.Core.Path.{_≡_, refl, sym, ap, _∙_, subst}
 use mathlib.Core.Bool.{Bool, true, false, _||_}

@@ -1,4 +1,4 @@
--- Laws of the places where pieces begin, and of the next one.
+-- Laws of the offsets where pieces begin, and of the next one.
 use Prim.Native.Nat.{ℕ, _+_, _-_, _<_, _≤_}
 use mathlib.Core.Path.{_≡_, ap, _∙_}
 use mathlib.Core.List.{List}

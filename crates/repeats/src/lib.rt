@@ -28,7 +28,7 @@ struct Stop {
     hit: bool,
 }
 
-// Where the next block begins, and the place before which no piece has a name of the blocks so far.
+// Where the next block begins, and the offset before which no piece has a name of the blocks so far.
 struct Turned {
     mid: usize,
     best: usize,

@@ -168,7 +168,7 @@ pub spelled-piece : (p s : List ℕ) → Every (λ x. either 0 255 x ≡ false) 
 spelled-piece [] s h = refl
 spelled-piece (x ∷ p) s h = let n = either-not 0 255 x (h .0) in spelled-plain x (p ++ s) (n .0) (n .1) ∙ spelled-piece p s (h .1)
 
--- ---- one turn, at the place i of l
+-- ---- one turn, at the offset i of l
 
 module _ (l : List ℕ) (i : ℕ) where
   pub decode-end : length l ≤ i → decode (drop i l) ≡ []
@@ -197,7 +197,7 @@ module _ (l : List ℕ) (i : ℕ) where
       ap length (decode-two h b)
       ∙ omega (arith, length-append (run (getD l (i + 1) 0)) (decode (drop (i + 1 + 1) l)), length-run (getD l (i + 1) 0))
 
--- ---- a piece without 0xFF: from the place i of l up to e
+-- ---- a piece without 0xFF: from the offset i of l up to e
 module _ (l : List ℕ) (i : ℕ) {e : ℕ} (h : i ≤ e) (q : e ≤ i + untilEither 255 255 (drop i l)) where
   pub decode-part : decode (drop i l) ≡ part l i e ++ decode (drop e l)
   unfolding part

@@ -1,4 +1,4 @@
--- The turns of the loops that decode: at the place i of the stored bytes.
+-- The turns of the loops that decode: at the offset i of the stored bytes.
 use Prim.Native.Nat.{ℕ, _+_, _-_, _%_, _≤_, _<_}
 use mathlib.Core.Path.{_≡_, sym, ap, _∙_}
 use mathlib.Core.List.{List}
@@ -48,7 +48,7 @@ module _ {a : List ℕ} {room i n : ℕ} (s : Measured a room i n) where
   pub measured-all : length a ≤ i → Length n ≡ writtenOf (decode a) room
   measured-all h = count-fits (decode a) room n (omega (arith, s .sum, ap length (decode-end a i h))) (s .within)
 
--- ---- the loops that write: what the bytes from the place f up to i stand for is in the buffer, which was d and is b, from `at` up to o
+-- ---- the loops that write: what the bytes from the offset f up to i stand for is in the buffer, which was d and is b, from `at` up to o
 pub record Decoding (a d : List ℕ) (f at i o : ℕ) (b : List ℕ) : Type 0 where
   pub grown : Grown (decode (drop f a)) d at o (decode (drop i a)) b
   pub fits : at + length (decode (drop f a)) ≤ length d

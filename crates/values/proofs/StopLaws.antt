@@ -1,4 +1,4 @@
--- The laws of `firstStop` and `nextStop`, and of the loops that take bytes one by one up to such a place, `stop`, and there look for a long piece: each turn lowers the measure.
+-- The laws of `firstStop` and `nextStop`, and of the loops that take bytes one by one up to such an offset, `stop`, and there look for a long piece: each turn lowers the measure.
 use Prim.Native.Nat.{ℕ, _+_, _-_, _*_, _≤_, _<_}
 use mathlib.Core.Path.{_≡_, sym, _∙_}
 use mathlib.Core.Logic.{_⊎_, inl, inr}
@@ -45,7 +45,7 @@ module _ (from len : ℕ) where
       (λ t. inl (e ∙ sym (next-few (ltb-true (len - from) 128 t))))
       (λ t. inr (e ∙ sym (next-many (ltb-false (len - from) 128 t))))
 
--- what is left of len bytes at the place i, twice, and one more where a long piece is looked for next
+-- what is left of len bytes at the offset i, twice, and one more where a long piece is looked for next
 abbrev pub toGo : ℕ → ℕ → ℕ → ℕ
 toGo len i stop = 2 * (len - i) + (1 - (stop - i))
 

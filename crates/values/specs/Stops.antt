@@ -1,4 +1,4 @@
--- The places up to which a loop takes bytes one by one before it looks for a long piece, in a list of `len` bytes.
+-- The offsets up to which a loop takes bytes one by one before it looks for a long piece, in a list of `len` bytes.
 use Prim.Native.Nat.{ℕ, _+_, _-_}
 use lib.Dec.{ltb}
 use Rattle.values.specs.Value.{pickNumber}

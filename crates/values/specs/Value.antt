@@ -107,7 +107,7 @@ writtenIn l buffer = pickBytes (leb (length l) (length buffer)) (pasted buffer 0
 unfoldable pub part : List ℕ → ℕ → ℕ → List ℕ
 part l from to = take (to - from) (drop from l)
 
--- what the stored bytes s stand for from the place i up to j is written to the buffer d from o up to p, and gives b
+-- what the stored bytes s stand for from the offset i up to j is written to the buffer d from o up to p, and gives b
 pub record Passed (s d : List ℕ) (i o j p : ℕ) (b : List ℕ) : Type 0 where
   pub piece : List ℕ
   pub told : decode (drop i s) ≡ piece ++ decode (drop j s)

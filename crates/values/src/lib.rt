@@ -13,14 +13,14 @@ pub enum Written {
     NoRoom,
 }
 
-// The place up to which bytes are taken one by one before a long piece is looked for: at the start at once, unless there are few bytes.
+// The offset up to which bytes are taken one by one before a long piece is looked for: at the start at once, unless there are few bytes.
 pub fn first_stop(len: usize) -> usize
     ensures { λ r. ⌜ r ≡ firstStop len ⌝ }
 {
     if len < 16 { len } else { 0 }
 }
 
-// The next such place, after `from`: where there is one escape there are often more.
+// The next such offset, after `from`: where there is one escape there are often more.
 pub fn next_stop(from: usize, len: usize) -> usize
     ensures { λ r. ⌜ r ≡ nextStop from len ⌝ }
 {
@@ -113,7 +113,7 @@ struct Spot {
     put: usize,
 }
 
-// Writes what the stored bytes from `from` on stand for at `at`, up to the place `stop` or the end of the escape there.
+// Writes what the stored bytes from `from` on stand for at `at`, up to the offset `stop` or the end of the escape there.
 fn decode_few(stored: &[u8], from: usize, stop: usize, buffer: &mut [u8], at: usize) -> Spot
     requires { ⌜ (from ≤ length (now stored)) × (stop ≤ length (now stored)) ⌝ }
     requires { ⌜ at + length (decode (drop from (now stored))) ≤ length (now buffer) ⌝ }

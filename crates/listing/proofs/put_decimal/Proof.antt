@@ -1,4 +1,4 @@
--- `put_decimal` meets its contract. The loop's invariant: the digits of what is left, written at the place, make the answer.
+-- `put_decimal` meets its contract. The loop's invariant: the digits of what is left, written at the offset, make the answer.
 use Prim.Native.Nat.{_+_, _≤_}
 use mathlib.Core.Path.{_≡_, refl, _∙_}
 use native.Mathlib.Omega.{arith}
