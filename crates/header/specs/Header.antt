@@ -8,6 +8,8 @@ use Rattle.header.specs.declared.Blocks.{Blocks}
 use Rattle.header.specs.declared.Bytes.{Bytes}
 use Rattle.header.specs.declared.Header.{Header}
 use Rattle.header.specs.declared.NewHeader.{NewHeader}
+use Rattle.errors.specs.Errors.{codeOf, offsetOf}
+use Rattle.header.specs.declared.ValidityAnswer.{ValidityAnswer}
 use Rattle.header.specs.declared.Validity.{Validity}
 use Rattle.header.specs.declared.Validity.the-variants.{Valid, Invalid}
 use Rattle.errors.specs.declared.Error.the-variants.{ZeroLength, PastEnd, Checksum, ZeroChecksum}
@@ -77,3 +79,8 @@ validityOf h at room = firstBroken (h .length) (h .checksum) (sumcheck (covered 
 -- the first rule that the header at an offset of an image breaks
 unfoldable pub validityAt : List ℕ → ℕ → Validity
 validityAt image at = validityOf (headerAt image at) at (length image - at)
+
+-- the code and the offset that a caller sees of it
+abbrev pub validityAnswer : Validity → ValidityAnswer
+validityAnswer Valid = record { code = 0; offset = 0 }
+validityAnswer (Invalid e) = record { code = codeOf e; offset = offsetOf e }

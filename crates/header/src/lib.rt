@@ -5,7 +5,7 @@ ghost use Prim.Native.Nat.{_+_, _/_, _%_, _≤_};
 ghost use lib.ListN.{length as len};
 ghost use Rattle.lists.specs.Bytes.{AllBytes};
 ghost use Rattle.header.specs.Checksum.{sum, sumcheck, closedForm};
-ghost use Rattle.header.specs.Header.{bytesOf, byteAt, nameAt, headerAt, covered, newHeader, firstBroken, validityOf, validityAt};
+ghost use Rattle.header.specs.Header.{bytesOf, byteAt, nameAt, headerAt, covered, newHeader, firstBroken, validityOf, validityAt, validityAnswer};
 
 // A length in blocks, as a header holds it.
 pub struct Blocks(pub u32);
@@ -42,6 +42,26 @@ pub enum Validity {
     Valid,
     // The first rule that it breaks.
     Invalid(Error),
+}
+
+// The caller's view of `Validity`: 0, or the error's code and offset.
+pub struct ValidityAnswer {
+    pub code: u32,
+    pub offset: usize,
+}
+
+impl Validity {
+    pub fn answer(self) -> ValidityAnswer
+        ensures { λ r. ⌜ r ≡ validityAnswer self ⌝ }
+    {
+        match self {
+            Validity::Valid => ValidityAnswer { code: 0, offset: 0 },
+            Validity::Invalid(e) => ValidityAnswer {
+                code: e.code(),
+                offset: e.offset(),
+            },
+        }
+    }
 }
 
 impl Header {

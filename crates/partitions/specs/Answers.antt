@@ -4,13 +4,25 @@ use Rattle.partitions.specs.declared.CheckAnswer.{CheckAnswer}
 use Rattle.partitions.specs.declared.Checked.{Checked}
 use Rattle.partitions.specs.declared.Checked.the-variants.{Accepted, Refused as Rejected}
 use Rattle.partitions.specs.declared.FindAnswer.{FindAnswer}
+use Rattle.partitions.specs.declared.StepAnswer.{StepAnswer}
+use Rattle.partitions.specs.declared.Step.{Step}
+use Rattle.partitions.specs.declared.Step.the-variants.{Next, End, Broken}
 use Rattle.partitions.specs.declared.Found.{Found}
 use Rattle.partitions.specs.declared.Found.the-variants.{At, Refused}
 
+-- a step of the walk: the partition and the next offset, none at the end
+abbrev pub stepAnswer : Step → StepAnswer
+stepAnswer (Next p c) =
+    record { code = 0; offset = 0; header = p .offset; blocks = p .blocks .0; signature = p .signature; next = c .at }
+stepAnswer End = record { code = 0; offset = 0; header = 0; blocks = 0; signature = 0; next = 0 }
+stepAnswer (Broken e) = record { code = codeOf e; offset = offsetOf e; header = 0; blocks = 0; signature = 0; next = 0 }
+
+-- the image check: the number of partitions
 abbrev pub checkAnswer : Checked → CheckAnswer
 checkAnswer (Accepted n) = record { code = 0; offset = 0; partitions = n }
 checkAnswer (Rejected e) = record { code = codeOf e; offset = offsetOf e; partitions = 0 }
 
+-- a partition by its index or by its signature and name
 abbrev pub findAnswer : Found → FindAnswer
 findAnswer (At p) =
     record { code = 0; offset = 0; header = p .offset; blocks = p .blocks .0; signature = p .signature }

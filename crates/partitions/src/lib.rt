@@ -3,7 +3,7 @@ ghost use mathlib.Core.Path.{_≡_};
 ghost use mathlib.Core.Bool.{true};
 ghost use Rattle.partitions.specs.Walk.{allowedLength, stepAt};
 ghost use Rattle.partitions.specs.Find.{keepFirst, checkOf, indexOf};
-ghost use Rattle.partitions.specs.Answers.{checkAnswer, findAnswer};
+ghost use Rattle.partitions.specs.Answers.{stepAnswer, checkAnswer, findAnswer};
 use errors::Error;
 use header::Blocks;
 use header::Header;
@@ -32,6 +32,49 @@ pub enum Step {
     End,
     // A header that breaks a rule.
     Broken(Error),
+}
+
+// The caller's view of `Step`: code 0, the partition's header and the next offset, all 0 at the end; or the error's code and offset.
+pub struct StepAnswer {
+    pub code: u32,
+    pub offset: usize,
+    pub header: usize,
+    pub blocks: u32,
+    pub signature: u8,
+    pub next: usize,
+}
+
+impl Step {
+    pub fn answer(self) -> StepAnswer
+        ensures { λ r. ⌜ r ≡ stepAnswer self ⌝ }
+    {
+        match self {
+            Step::Next(here, cursor) => StepAnswer {
+                code: 0,
+                offset: 0,
+                header: here.offset,
+                blocks: here.blocks.0,
+                signature: here.signature,
+                next: cursor.at,
+            },
+            Step::End => StepAnswer {
+                code: 0,
+                offset: 0,
+                header: 0,
+                blocks: 0,
+                signature: 0,
+                next: 0,
+            },
+            Step::Broken(e) => StepAnswer {
+                code: e.code(),
+                offset: e.offset(),
+                header: 0,
+                blocks: 0,
+                signature: 0,
+                next: 0,
+            },
+        }
+    }
 }
 
 impl Cursor {

@@ -1,3 +1,4 @@
+-- `Checked::answer` meets its contract, case by case.
 use borrow.Author.Needs.{needs}
 use Rattle.partitions.proofs.Checked.answer.Statement.{statement}
 use Rattle.partitions.proofs.Checked.answer.Tie as tie

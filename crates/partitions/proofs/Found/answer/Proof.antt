@@ -1,3 +1,4 @@
+-- `Found::answer` meets its contract, case by case.
 use borrow.Author.Needs.{needs}
 use Rattle.partitions.proofs.Found.answer.Statement.{statement}
 use Rattle.partitions.proofs.Found.answer.Tie as tie
