@@ -9,6 +9,7 @@ use lib.Dec.{leb}
 unfoldable pub pasted : List ℕ → ℕ → List ℕ → List ℕ
 pasted d at w = take at d ++ w ++ drop (at + length w) d
 
+-- the first if the test holds, else the second
 abbrev pub pickList : Bool → List ℕ → List ℕ → List ℕ
 pickList true a b = a
 pickList false a b = b

@@ -5,7 +5,7 @@ use mathlib.Core.Path.{_≡_}
 use mathlib.Core.List.{List, [], _∷_, _++_}
 use lib.ListN.{length, take, drop, replicate}
 use lib.Dec.{leb, ltb, eqb}
-use Rattle.lists.specs.Pasted.{pasted}
+use Rattle.lists.specs.Pasted.{pasted, pickList}
 use Rattle.values.specs.declared.Written.{Written}
 use Rattle.values.specs.declared.Written.the-variants.{Length, NoRoom}
 
@@ -13,11 +13,6 @@ use Rattle.values.specs.declared.Written.the-variants.{Length, NoRoom}
 abbrev pub pickNumber : Bool → ℕ → ℕ → ℕ
 pickNumber true a b = a
 pickNumber false a b = b
-
--- the same of lists of bytes
-abbrev pub pickBytes : Bool → List ℕ → List ℕ → List ℕ
-pickBytes true a b = a
-pickBytes false a b = b
 
 -- the same of answers
 abbrev pub pickWritten : Bool → Written → Written → Written
@@ -68,7 +63,7 @@ fullEscapes b (suc k) = 0xFF ∷ (mark b + 127) ∷ fullEscapes b k
 
 -- one escape for the rest, if there is a rest
 unfoldable pub restEscape : ℕ → ℕ → List ℕ
-restEscape b n = pickBytes (eqb n 0) [] (0xFF ∷ (mark b + n) ∷ [])
+restEscape b n = pickList (eqb n 0) [] (0xFF ∷ (mark b + n) ∷ [])
 
 -- a run of n: escapes of 127, as many as fit, then one for the rest if there is a rest
 unfoldable pub runBytes : ℕ → ℕ → List ℕ
@@ -99,7 +94,7 @@ writtenOf l room = pickWritten (leb (length l) room) (Length (length l)) NoRoom
 
 -- the buffer afterwards: the bytes at its start if there is room for them, else as it was
 unfoldable pub writtenIn : List ℕ → List ℕ → List ℕ
-writtenIn l buffer = pickBytes (leb (length l) (length buffer)) (pasted buffer 0 l) buffer
+writtenIn l buffer = pickList (leb (length l) (length buffer)) (pasted buffer 0 l) buffer
 
 -- ---- a part of a list
 
@@ -130,4 +125,4 @@ recodedOf area from to at = pickWritten (recodable area from to at) (Length (len
 
 -- the area afterwards: the canonical form is written at `at`
 unfoldable pub recodedIn : List ℕ → ℕ → ℕ → ℕ → List ℕ
-recodedIn area from to at = pickBytes (recodable area from to at) (pasted area at (recoded area from to)) area
+recodedIn area from to at = pickList (recodable area from to at) (pasted area at (recoded area from to)) area
