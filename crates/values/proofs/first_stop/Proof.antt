@@ -5,10 +5,10 @@ use Rattle.values.proofs.first_stop.Statement.{statement}
 use Rattle.values.proofs.first_stop.Tie as tie
 
 returns : tie.Need-returns
-returns c = first-few _ (omega arith)
+returns c = first-few (c .before .args .len) (omega arith)
 
 returns-2 : tie.Need-returns-2
-returns-2 c = first-many _ (omega arith)
+returns-2 c = first-many (c .before .args .len) (omega arith)
 
 pub first-stop-spec : {M : Type 1} → statement M
 first-stop-spec = tie.close (tie.spec returns returns-2)
