@@ -9,10 +9,7 @@ use borrow.Author.Tests.{lt-ltb, le-ltb, ltb-true, ltb-false}
 use Rattle.lists.specs.Pasted.{pasted}
 use Rattle.lists.proofs.Tests.{split}
 use Rattle.lists.proofs.PastedLaws.{pasted-none}
-use Rattle.errors.specs.declared.Error.{Error}
-use Rattle.errors.specs.declared.Error.the-variants.{NoRoom, NoVariable, BadName}
-use Rattle.names.specs.declared.NameCheck.the-variants.{Good, Wrong}
-use Rattle.names.specs.Name.{nameCheck, goodName}
+use Rattle.errors.specs.declared.Error.the-variants.{NoRoom, NoVariable}
 use Rattle.pairs.specs.declared.Scanned.the-variants as Scanned
 use Rattle.pairs.specs.declared.Place.{Place}
 use Rattle.pairs.specs.declared.Place.the-variants.{At, None}
@@ -20,19 +17,20 @@ use Rattle.pairs.specs.Area.{Pair, pairOf, pairBytes, pairsBytes, Parse, parse}
 use Rattle.variables.specs.Edits.{areaOf, canonicalPair, setPair, removePair, Lookup, lookup, found, missing}
 use Rattle.variables.specs.Calls as Calls
 use Rattle.variables.specs.Calls.{Outcome, pickOutcome, refuse, edited, done, refused, callBy, callPairs}
-use Rattle.pairs.specs.Places.{scannedOf, findAt}
+use Rattle.variables.specs.Places.{namedScan}
+use Rattle.pairs.specs.Places.{findAt}
 use Rattle.edits.specs.Replaced.{Used, tailShifted, replaceReply, replaceArea}
 use Rattle.pairs.proofs.ParseLaws.{area-read, read-room, pairs-append}
 use Rattle.variables.proofs.EditLaws.{set-nowhere, lookup-missing-exactly}
-use Rattle.variables.proofs.CallPlaces.{scanned-pairs, scanned-refused, call-misnamed, call-faulty, good-told, wrong-told, set-makes}
+use Rattle.variables.proofs.CallPlaces.{named-pairs, set-makes}
 use Rattle.edits.proofs.SpliceLaws.{pairs-spliced}
 use Rattle.variables.proofs.FoundLaws.{FoundAt, find-found, find-missing, lookup-split, remove-split, set-split}
 
--- the offset that a scan of the whole area answers
-pub scan-used : (area name : List ℕ) (n used : ℕ) (place : Place) → Scanned.Pairs n used place ≡ scannedOf (parse area) (findAt area name)
+-- the offset that a scan for a name answers
+pub scan-used : (area name : List ℕ) (n used : ℕ) (place : Place) → Scanned.Pairs n used place ≡ namedScan area name
     → Used area used × (place ≡ findAt area name)
 scan-used area name n used place e =
-    let p = scanned-pairs (parse area) (findAt area name) n used place e in
+    let p = named-pairs area name n used place e .scanned in
     (record { pairs = p .pairs; parses = p .is; is = p .long }, p .there)
 
 pub used-inside : {area : List ℕ} {used : ℕ} → Used area used → used + 1 ≤ length area
@@ -198,24 +196,9 @@ module _ (area : List ℕ) (used : ℕ) (u : Used area used) (name : List ℕ) w
         ap (λ (x : Parse). callBy x (Calls.remove name) area) (u .parses) ∙ ap (λ (x : Lookup). Calls.removeBy x name (u .pairs) area) gone in
         (ap (λ (x : Outcome). x .reply) (sym f), ap (λ (x : Outcome). x .area) (sym f))
 
--- an edit of a name, by what the check of the name and the scan of the area answer
+-- what an edit answers, and the area afterwards
 abbrev pub Told : Outcome → Calls.Reply → List ℕ → Type 0
 Told o reply area = (reply ≡ o .reply) × (area ≡ o .area)
 
-outcome-told : (o p : Outcome) → o ≡ p → Told o (p .reply) (p .area)
-outcome-told o p e = (ap (λ (x : Outcome). x .reply) (sym e), ap (λ (x : Outcome). x .area) (sym e))
-
-module _ (call : Calls.Call) (name : List ℕ) (takes : Calls.wellNamed call ≡ goodName name) (area : List ℕ) where
-  pub edit-misnamed : (k : ℕ) → Wrong k ≡ nameCheck name → Told (Calls.callArea call area) (refused BadName) area
-  edit-misnamed k w = outcome-told (Calls.callArea call area) _ (call-misnamed call area (takes ∙ wrong-told name k w))
-
-  module _ (g : Good ≡ nameCheck name) where
-    pub edit-faulty : (sought : Place) (e : Error) → Scanned.Refused e ≡ scannedOf (parse area) sought → Told (Calls.callArea call area) (refused e) area
-    edit-faulty sought e s =
-        outcome-told (Calls.callArea call area) _ (call-faulty call area (takes ∙ good-told name g) e (scanned-refused (parse area) sought e s))
-
-    pub edit-parsed : {reply : Calls.Reply} {after : List ℕ} → Told (callBy (parse area) call area) reply after → Told (Calls.callArea call area) reply after
-    unfolding Calls.callArea
-    edit-parsed t =
-        let f : Calls.callArea call area ≡ callBy (parse area) call area = rw (takes ∙ good-told name g) in
-        (t .0 ∙ ap (λ (x : Outcome). x .reply) (sym f), t .1 ∙ ap (λ (x : Outcome). x .area) (sym f))
+pub told-as : {o p : Outcome} {reply : Calls.Reply} {area : List ℕ} → o ≡ p → Told o reply area → Told p reply area
+told-as e t = (t .0 ∙ ap (λ (x : Outcome). x .reply) e, t .1 ∙ ap (λ (x : Outcome). x .area) e)

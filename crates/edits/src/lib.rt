@@ -1,6 +1,5 @@
 // The edits of a variable in its area: set and remove.
 use errors::Error;
-use names::NameCheck;
 use pairs::Place;
 use pairs::Scanned;
 use variables::Edited;
@@ -106,16 +105,13 @@ pub fn set(area: &mut [u8], name: &[u8], value: &[u8]) -> Edited
     ensures { λ r. ⌜ editReply r ≡ Calls.callArea (Calls.set (now (name .entry)) (now (value .entry))) (now (area .entry)) .reply ⌝ }
     ensures { λ _. ⌜ now (area .exit) ≡ Calls.callArea (Calls.set (now (name .entry)) (now (value .entry))) (now (area .entry)) .area ⌝ }
 {
-    match names::check(name) {
-        NameCheck::Wrong { at: _ } => Edited::Refused(Error::BadName),
-        NameCheck::Good => match pairs::scan(area, name) {
-            Scanned::Refused(e) => Edited::Refused(e),
-            Scanned::Pairs {
-                count: _,
-                used,
-                place,
-            } => set_pair(area, name, value, used, place),
-        },
+    match variables::scan_named(area, name) {
+        Scanned::Refused(e) => Edited::Refused(e),
+        Scanned::Pairs {
+            count: _,
+            used,
+            place,
+        } => set_pair(area, name, value, used, place),
     }
 }
 
@@ -143,15 +139,12 @@ pub fn remove(area: &mut [u8], name: &[u8]) -> Edited
     ensures { λ r. ⌜ editReply r ≡ Calls.callArea (Calls.remove (now (name .entry))) (now (area .entry)) .reply ⌝ }
     ensures { λ _. ⌜ now (area .exit) ≡ Calls.callArea (Calls.remove (now (name .entry))) (now (area .entry)) .area ⌝ }
 {
-    match names::check(name) {
-        NameCheck::Wrong { at: _ } => Edited::Refused(Error::BadName),
-        NameCheck::Good => match pairs::scan(area, name) {
-            Scanned::Refused(e) => Edited::Refused(e),
-            Scanned::Pairs {
-                count: _,
-                used,
-                place,
-            } => remove_pair(area, name, used, place),
-        },
+    match variables::scan_named(area, name) {
+        Scanned::Refused(e) => Edited::Refused(e),
+        Scanned::Pairs {
+            count: _,
+            used,
+            place,
+        } => remove_pair(area, name, used, place),
     }
 }

@@ -22,9 +22,9 @@ use Rattle.pairs.specs.declared.Place.the-variants.{At, None}
 use Rattle.pairs.specs.Scan.{Stand, pair, finish, cut, wrongName, wrongEscape, standAt}
 use Rattle.pairs.specs.Area.{Pair, pairsBytes, Parse, parsed, faulty, parse}
 use Rattle.variables.specs.Edits.{areaOf, setPair, Lookup, found, missing, lookup}
-use Rattle.variables.specs.Calls.{Call, set, count, read, Reply, done, refused, Outcome, refuse, edited, pickOutcome, wellNamed, setIn, readBy, callPairs, callArea}
+use Rattle.variables.specs.Calls.{Call, set, count, read, Reply, done, refused, Outcome, refuse, edited, pickOutcome, wellNamed, setIn, readBy, callPairs, callBy, callArea}
 use Rattle.pairs.specs.Places.{scannedOf, onFind, findFrom, findAt}
-use Rattle.variables.specs.Places.{Sought, valueAt, pairRead}
+use Rattle.variables.specs.Places.{namedScan, Sought, valueAt, pairRead}
 use Rattle.pairs.proofs.PairPlaces.{pair-here}
 use Rattle.variables.proofs.FoundLaws.{parsed-ended, FoundAt, find-found, find-missing, lookup-split, found-stored}
 
@@ -69,6 +69,43 @@ good-told name e = ap isGood (sym e)
 pub wrong-told : (name : List ℕ) (k : ℕ) → Wrong k ≡ nameCheck name → goodName name ≡ false
 unfolding goodName
 wrong-told name k e = ap isGood (sym e)
+
+-- ---- the scan for a name, and the calls that take one
+
+-- what the pairs of such a scan tell
+pub record NamedPairs (area name : List ℕ) (n used : ℕ) (place : Place) : Type 0 where
+  pub good : goodName name ≡ true
+  pub scanned : PairsOf (parse area) (findAt area name) n used place
+
+module _ (area name : List ℕ) where
+  pub scan-misnamed : (k : ℕ) → Wrong k ≡ nameCheck name → Refused BadName ≡ namedScan area name
+  unfolding namedScan
+  scan-misnamed k w = rw (wrong-told name k w)
+
+  pub scan-wellnamed : Good ≡ nameCheck name → scannedOf (parse area) (findAt area name) ≡ namedScan area name
+  unfolding namedScan
+  scan-wellnamed g = rw (good-told name g)
+
+  pub named-pairs : (n used : ℕ) (place : Place) → Pairs n used place ≡ namedScan area name → NamedPairs area name n used place
+  unfolding namedScan
+  named-pairs n used place e =
+      split (goodName name)
+      (λ t. record { good = t; scanned = scanned-pairs (parse area) (findAt area name) n used place (rw t at e) })
+      (λ t. let f : Pairs n used place ≡ Refused BadName = rw t at e in clash cc)
+
+module _ (call : Call) (name : List ℕ) (takes : wellNamed call ≡ goodName name) (area : List ℕ) where
+  pub call-refused : (k : Error) → Refused k ≡ namedScan area name → callArea call area ≡ refuse k call area
+  unfolding namedScan
+  call-refused k e =
+      split (goodName name)
+      (λ t. call-faulty call area (takes ∙ t) k (scanned-refused (parse area) (findAt area name) k (rw t at e)))
+      (λ t. let f : Refused k ≡ Refused BadName = rw t at e in
+      let j : k ≡ BadName = cc in
+      call-misnamed call area (takes ∙ t) ∙ ap (λ (x : Error). refuse x call area) (sym j))
+
+  pub call-scanned : (n used : ℕ) (place : Place) → Pairs n used place ≡ namedScan area name → callArea call area ≡ callBy (parse area) call area
+  unfolding callArea
+  call-scanned n used place e = rw (takes ∙ named-pairs area name n used place e .good)
 
 -- A SET BY THE PAIRS THAT IT MAKES: where they lack room it is refused and the area stays
 pub set-makes : (name value : List ℕ) (ps qs : List Pair) (area : List ℕ) → setPair name value ps ≡ qs
@@ -169,31 +206,21 @@ value-found area name ps h = go (findAt area name) refl
         ap (λ (l : List ℕ). found (decode l)) (found-stored f (parsed-ended area ps h))
         ∙ sym (ap (lookup name) (f .pairs) ∙ lookup-split name (f .stored) (f .after) (f .before) (f .fresh))
 
-module _ (name buffer area : List ℕ) where
-  pub read-misnamed : (k : ℕ) → Wrong k ≡ nameCheck name → Reads (callArea (read name buffer) area) (refused BadName) buffer
-  unfolding wellNamed
-  read-misnamed k e = reads-as (sym (call-misnamed (read name buffer) area (wrong-told name k e))) (record { replied = refl; left = refl })
+-- a read of the pair that a scan for the name finds
+module _ (area name : List ℕ) (n used : ℕ) (place : Place) (e : Pairs n used place ≡ namedScan area name) where
+  pub place-sought : Sought area place
+  place-sought = record { name = name; is = named-pairs area name n used place e .scanned .there }
 
-  module _ (g : Good ≡ nameCheck name) where
-    pub read-refused : (sought : Place) (k : Error) → Refused k ≡ scannedOf (parse area) sought → Reads (callArea (read name buffer) area) (refused k) buffer
-    unfolding wellNamed
-    read-refused sought k e =
-        reads-as (sym (call-faulty (read name buffer) area (good-told name g) k (scanned-refused (parse area) sought k e))) (record { replied = refl; left = refl })
-
-    pub read-pairs : (n used : ℕ) (place : Place) → Pairs n used place ≡ scannedOf (parse area) (findAt area name)
-        → pairRead place buffer area ≡ callArea (read name buffer) area
-    unfolding wellNamed callPairs pairRead
-    read-pairs n used place e =
-        let p = scanned-pairs (parse area) (findAt area name) n used place e in
-        ap (λ (x : Place). readBy (valueAt area x) [] buffer area) (p .there)
-        ∙ ap (λ (l : Lookup). readBy l [] buffer area) (value-found area name (p .pairs) (p .is))
-        ∙ nameless (lookup name (p .pairs))
-        ∙ sym (call-parsed (read name buffer) area (good-told name g) (p .pairs) (p .is))
-      where
-        nameless : (l : Lookup) → readBy l [] buffer area ≡ readBy l name buffer area
-        nameless (found value) = refl
-        nameless missing = refl
-
--- the place that a scan answers
-pub place-sought : (area name : List ℕ) (n used : ℕ) (place : Place) → Pairs n used place ≡ scannedOf (parse area) (findAt area name) → Sought area place
-place-sought area name n used place e = record { name = name; is = scanned-pairs (parse area) (findAt area name) n used place e .there }
+  pub read-pairs : (buffer : List ℕ) → pairRead place buffer area ≡ callArea (read name buffer) area
+  unfolding wellNamed callPairs pairRead
+  read-pairs buffer =
+      let k = named-pairs area name n used place e in
+      let p = k .scanned in
+      ap (λ (x : Place). readBy (valueAt area x) [] buffer area) (p .there)
+      ∙ ap (λ (l : Lookup). readBy l [] buffer area) (value-found area name (p .pairs) (p .is))
+      ∙ nameless (lookup name (p .pairs))
+      ∙ sym (call-parsed (read name buffer) area (k .good) (p .pairs) (p .is))
+    where
+      nameless : (l : Lookup) → readBy l [] buffer area ≡ readBy l name buffer area
+      nameless (found value) = refl
+      nameless missing = refl

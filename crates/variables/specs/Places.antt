@@ -1,11 +1,17 @@
--- What the code of each call answers, a read by the place of the pair.
+-- What the code of each call answers: the scan for a name, and a read by the place of the pair.
 use Prim.Native.Nat.{ℕ, _+_}
 use mathlib.Core.Path.{_≡_}
+use mathlib.Core.Bool.{Bool, true, false}
 use mathlib.Core.List.{List, []}
+use Rattle.errors.specs.declared.Error.the-variants.{BadName}
+use Rattle.names.specs.Name.{goodName}
 use Rattle.values.specs.Value.{decode, part}
 use Rattle.pairs.specs.declared.Place.{Place}
 use Rattle.pairs.specs.declared.Place.the-variants as Place
-use Rattle.pairs.specs.Places.{findAt}
+use Rattle.pairs.specs.declared.Scanned.{Scanned}
+use Rattle.pairs.specs.declared.Scanned.the-variants as Scanned
+use Rattle.pairs.specs.Area.{parse}
+use Rattle.pairs.specs.Places.{scannedOf, findAt}
 use Rattle.variables.specs.declared.Counted.{Counted}
 use Rattle.variables.specs.declared.Counted.the-variants as Counted
 use Rattle.variables.specs.declared.ReadAnswer.{ReadAnswer}
@@ -14,6 +20,14 @@ use Rattle.variables.specs.declared.Edited.{Edited}
 use Rattle.variables.specs.declared.Edited.the-variants as Edited
 use Rattle.variables.specs.Edits.{Lookup, found, missing}
 use Rattle.variables.specs.Calls.{Reply, done, refused, Outcome, readBy}
+
+abbrev pub pickScanned : Bool → Scanned → Scanned → Scanned
+pickScanned true a b = a
+pickScanned false a b = b
+
+-- the scan of an area for a variable; 11 goes before the area's faults
+unfoldable pub namedScan : List ℕ → List ℕ → Scanned
+namedScan area name = pickScanned (goodName name) (scannedOf (parse area) (findAt area name)) (Scanned.Refused BadName)
 
 -- a place that was sought by some name
 pub record Sought (area : List ℕ) (place : Place) : Type 0 where

@@ -5,7 +5,7 @@ use pairs::Place;
 use pairs::Scanned;
 use values::Written;
 ghost use mathlib.Core.Path.{_≡_};
-ghost use Rattle.variables.specs.Places.{Sought, pairRead, countReply, readReply};
+ghost use Rattle.variables.specs.Places.{namedScan, Sought, pairRead, countReply, readReply};
 ghost use Rattle.variables.specs.Calls as Calls;
 
 // An edit that is done, or why it is not.
@@ -24,6 +24,16 @@ pub enum Counted {
 pub enum ReadAnswer {
     Length(usize),
     Refused(Error),
+}
+
+// Scans an area for a variable; a bad name goes before the area's faults.
+pub fn scan_named(area: &[u8], name: &[u8]) -> Scanned
+    ensures { λ r. ⌜ r ≡ namedScan (now (area .entry)) (now (name .entry)) ⌝ }
+{
+    match names::check(name) {
+        NameCheck::Wrong { at: _ } => Scanned::Refused(Error::BadName),
+        NameCheck::Good => pairs::scan(area, name),
+    }
 }
 
 // Decodes the value of the pair at a place into the buffer.
@@ -67,15 +77,12 @@ pub fn read(area: &[u8], name: &[u8], buffer: &mut [u8]) -> ReadAnswer
     ensures { λ r. ⌜ readReply r ≡ Calls.callArea (Calls.read (now (name .entry)) (now (buffer .entry))) (now (area .entry)) .reply ⌝ }
     ensures { λ _. ⌜ now (buffer .exit) ≡ Calls.callArea (Calls.read (now (name .entry)) (now (buffer .entry))) (now (area .entry)) .buffer ⌝ }
 {
-    match names::check(name) {
-        NameCheck::Wrong { at: _ } => ReadAnswer::Refused(Error::BadName),
-        NameCheck::Good => match pairs::scan(area, name) {
-            Scanned::Refused(e) => ReadAnswer::Refused(e),
-            Scanned::Pairs {
-                count: _,
-                used: _,
-                place,
-            } => read_pair(area, place, buffer),
-        },
+    match scan_named(area, name) {
+        Scanned::Refused(e) => ReadAnswer::Refused(e),
+        Scanned::Pairs {
+            count: _,
+            used: _,
+            place,
+        } => read_pair(area, place, buffer),
     }
 }
