@@ -7,11 +7,54 @@ use values::Written;
 ghost use mathlib.Core.Path.{_≡_};
 ghost use Rattle.variables.specs.Places.{namedScan, Sought, pairRead, countReply, readReply};
 ghost use Rattle.variables.specs.Calls as Calls;
+ghost use Rattle.variables.specs.Answers.{doneAnswer, refusedAnswer, countedAnswer, lengthAnswer, editedAnswer};
+
+// The caller's view of an answer to a call on variables: code 0 and the length or count, or the error's code and offset.
+pub struct CallAnswer {
+    pub code: u32,
+    pub offset: usize,
+    pub amount: usize,
+}
+
+impl CallAnswer {
+    // Of a call that is done.
+    fn done(amount: usize) -> Self
+        ensures { λ r. ⌜ r ≡ doneAnswer amount ⌝ }
+    {
+        CallAnswer {
+            code: 0,
+            offset: 0,
+            amount,
+        }
+    }
+
+    // Of a call that is refused.
+    fn refused(e: Error) -> Self
+        ensures { λ r. ⌜ r ≡ refusedAnswer e ⌝ }
+    {
+        CallAnswer {
+            code: e.code(),
+            offset: e.offset(),
+            amount: 0,
+        }
+    }
+}
 
 // An edit that is done, or why it is not.
 pub enum Edited {
     Done,
     Refused(Error),
+}
+
+impl Edited {
+    pub fn answer(self) -> CallAnswer
+        ensures { λ r. ⌜ r ≡ editedAnswer self ⌝ }
+    {
+        match self {
+            Edited::Done => CallAnswer::done(0),
+            Edited::Refused(e) => CallAnswer::refused(e),
+        }
+    }
 }
 
 // The number of variables, or why there is none.
@@ -20,10 +63,32 @@ pub enum Counted {
     Refused(Error),
 }
 
+impl Counted {
+    pub fn answer(self) -> CallAnswer
+        ensures { λ r. ⌜ r ≡ countedAnswer self ⌝ }
+    {
+        match self {
+            Counted::Variables(n) => CallAnswer::done(n),
+            Counted::Refused(e) => CallAnswer::refused(e),
+        }
+    }
+}
+
 // The length of the value that was read, or why there is none.
 pub enum ReadAnswer {
     Length(usize),
     Refused(Error),
+}
+
+impl ReadAnswer {
+    pub fn answer(self) -> CallAnswer
+        ensures { λ r. ⌜ r ≡ lengthAnswer self ⌝ }
+    {
+        match self {
+            ReadAnswer::Length(n) => CallAnswer::done(n),
+            ReadAnswer::Refused(e) => CallAnswer::refused(e),
+        }
+    }
 }
 
 // Scans an area for a variable; a bad name goes before the area's faults.
