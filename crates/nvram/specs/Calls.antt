@@ -20,20 +20,19 @@ use Rattle.errors.specs.declared.Error.the-variants.{
   NoRoom,
   ShortBuffer,
 }
-use Rattle.errors.specs.Errors.{codeOf, offsetOf}
+use Rattle.errors.specs.Errors.{offsetOf}
 use Rattle.header.specs.Header.{bytesOf}
 use Rattle.partitions.specs.declared.Found.{Found}
 use Rattle.partitions.specs.declared.Found.the-variants.{At, Refused}
 use Rattle.partitions.specs.Find.{findOf, areaOf}
+use Rattle.variables.specs.declared.CallAnswer.{CallAnswer}
 use Rattle.variables.specs.declared.Counted.{Counted}
-use Rattle.variables.specs.declared.Counted.the-variants as Counted
 use Rattle.variables.specs.declared.ReadAnswer.{ReadAnswer}
-use Rattle.variables.specs.declared.ReadAnswer.the-variants as ReadAnswer
 use Rattle.variables.specs.declared.Edited.{Edited}
-use Rattle.variables.specs.declared.Edited.the-variants as Edited
 use Rattle.nvram.specs.declared.Span.{Span}
 use Rattle.nvram.specs.declared.Span.the-variants as Span
 use Rattle.variables.specs.Calls.{Call, lent, wellNamed, Reply, done, refused, Outcome, callArea}
+use Rattle.variables.specs.Answers.{doneAnswer, refusedAnswer, countedAnswer, lengthAnswer, editedAnswer}
 use Rattle.nvram.specs.Common.{common}
 
 -- what the caller sees of a call on variables: code, offset, a length or count, and the buffer afterwards
@@ -42,6 +41,10 @@ pub record Answer : Type 0 where
   pub offset : ℕ
   pub amount : ℕ
   pub buffer : List ℕ
+
+-- an answer with the buffer afterwards
+abbrev pub withBuffer : CallAnswer → List ℕ → Answer
+withBuffer a buffer = record { code = a .code; offset = a .offset; amount = a .amount; buffer = buffer }
 
 -- the offsets of the area's faults count from the image's first byte: the area begins at n
 unfoldable pub moved : ℕ → Error → Error
@@ -62,10 +65,10 @@ moved n ShortBuffer = ShortBuffer
 
 -- a refusal answers its code and offset, no length or count, and leaves the buffer
 abbrev pub refusal : Error → List ℕ → Answer
-refusal e buffer = record { code = codeOf e; offset = offsetOf e; amount = 0; buffer = buffer }
+refusal e buffer = withBuffer (refusedAnswer e) buffer
 
 abbrev pub answer : ℕ → Reply → List ℕ → Answer
-answer n (done amount) buffer = record { code = 0; offset = 0; amount = amount; buffer = buffer }
+answer n (done amount) buffer = withBuffer (doneAnswer amount) buffer
 answer n (refused e) buffer = refusal (moved n e) buffer
 
 -- what a call answers, and the image afterwards
@@ -97,18 +100,15 @@ unfoldable pub areaSpan : Found → Span
 areaSpan (At p) = Span.At (p .offset + 16) (p .offset + bytesOf (p .blocks) .0)
 areaSpan (Refused e) = Span.Refused e
 
--- the caller's view of each answer
+-- each answer with the buffer, where a call lends one
 unfoldable pub countAnswer : Counted → Answer
-countAnswer (Counted.Variables n) = record { code = 0; offset = 0; amount = n; buffer = [] }
-countAnswer (Counted.Refused e) = refusal e []
+countAnswer r = withBuffer (countedAnswer r) []
 
 unfoldable pub readAnswer : ReadAnswer → List ℕ → Answer
-readAnswer (ReadAnswer.Length n) buffer = record { code = 0; offset = 0; amount = n; buffer = buffer }
-readAnswer (ReadAnswer.Refused e) buffer = refusal e buffer
+readAnswer r buffer = withBuffer (lengthAnswer r) buffer
 
 unfoldable pub editAnswer : Edited → Answer
-editAnswer Edited.Done = record { code = 0; offset = 0; amount = 0; buffer = [] }
-editAnswer (Edited.Refused e) = refusal e []
+editAnswer r = withBuffer (editedAnswer r) []
 
 -- the offset of a refused reply
 abbrev pub replyOffset : Reply → ℕ
