@@ -1,79 +1,11 @@
 // The C boundary: each function returns the code, 0 where the call is done, and stores the offset and its other outputs, 0 with every code from 1 up.
-use variables::Counted;
-use variables::Edited;
-use variables::ReadAnswer;
 ghost use mathlib.Core.Path.{_≡_};
-ghost use mathlib.Core.List.{List};
-ghost use Prim.Native.Nat.{ℕ};
 ghost use lib.ListN as List;
 ghost use Rattle.variables.specs.Calls.{set, remove, normalize, read, count};
-ghost use Rattle.nvram.specs.Calls.{countAnswer, readAnswer, editAnswer};
 ghost use Rattle.demands.specs.Requests.{variable, check, partition, find};
 ghost use Rattle.demands.specs.Library.{seen};
 ghost use Rattle.listing.specs.Text.{listingText};
 ghost use Rattle.listing.specs.Listed.{listedOf, listedIn, listAnswer};
-ghost use Rattle.nvram_c.specs.Told.{toldOf};
-
-// The code, offset and amount of an answer: its code, its offset, and a length or count.
-struct Told {
-    code: u32,
-    offset: usize,
-    amount: usize,
-}
-
-// What a caller is told of a count.
-fn told_count(answer: Counted) -> Told
-    ensures { λ r. ⌜ r ≡ toldOf (countAnswer answer) ⌝ }
-{
-    match answer {
-        Counted::Variables(n) => Told {
-            code: 0,
-            offset: 0,
-            amount: n,
-        },
-        Counted::Refused(e) => Told {
-            code: e.code(),
-            offset: e.offset(),
-            amount: 0,
-        },
-    }
-}
-
-// What a caller is told of a read; the buffer is lent and not told.
-fn told_read(answer: ReadAnswer) -> Told
-    ensures { λ r. ⌜ ((buffer : List ℕ) → r ≡ toldOf (readAnswer answer buffer)) ⌝ }
-{
-    match answer {
-        ReadAnswer::Length(n) => Told {
-            code: 0,
-            offset: 0,
-            amount: n,
-        },
-        ReadAnswer::Refused(e) => Told {
-            code: e.code(),
-            offset: e.offset(),
-            amount: 0,
-        },
-    }
-}
-
-// What a caller is told of an edit.
-fn told_edit(answer: Edited) -> Told
-    ensures { λ r. ⌜ r ≡ toldOf (editAnswer answer) ⌝ }
-{
-    match answer {
-        Edited::Done => Told {
-            code: 0,
-            offset: 0,
-            amount: 0,
-        },
-        Edited::Refused(e) => Told {
-            code: e.code(),
-            offset: e.offset(),
-            amount: 0,
-        },
-    }
-}
 
 // Checks an image: the number of partitions that cover it.
 #[no_mangle]
@@ -141,7 +73,7 @@ pub extern "C" fn nvram_count(image: &[u8], offset: &mut usize, variables: &mut 
     ensures { λ _. ⌜ now (offset .exit) ≡ seen (variable count) (now (image .entry)) .offset ⌝ }
     ensures { λ _. ⌜ now (variables .exit) ≡ seen (variable count) (now (image .entry)) .amount ⌝ }
 {
-    let counted = told_count(nvram::count(image));
+    let counted = nvram::count(image).answer();
     *offset = counted.offset;
     *variables = counted.amount;
     counted.code
@@ -161,7 +93,7 @@ pub extern "C" fn nvram_read(
     ensures { λ _. ⌜ now (length .exit) ≡ seen (variable (read (now (name .entry)) (now (buffer .entry)))) (now (image .entry)) .amount ⌝ }
     ensures { λ _. ⌜ now (buffer .exit) ≡ seen (variable (read (now (name .entry)) (now (buffer .entry)))) (now (image .entry)) .buffer ⌝ }
 {
-    let reading = told_read(nvram::read(image, name, buffer));
+    let reading = nvram::read(image, name, buffer).answer();
     *offset = reading.offset;
     *length = reading.amount;
     reading.code
@@ -174,7 +106,7 @@ pub extern "C" fn nvram_set(image: &mut [u8], name: &[u8], value: &[u8], offset:
     ensures { λ _. ⌜ now (offset .exit) ≡ seen (variable (set (now (name .entry)) (now (value .entry)))) (now (image .entry)) .offset ⌝ }
     ensures { λ _. ⌜ now (image .exit) ≡ seen (variable (set (now (name .entry)) (now (value .entry)))) (now (image .entry)) .image ⌝ }
 {
-    let setting = told_edit(nvram::set(image, name, value));
+    let setting = nvram::set(image, name, value).answer();
     *offset = setting.offset;
     setting.code
 }
@@ -186,7 +118,7 @@ pub extern "C" fn nvram_remove(image: &mut [u8], name: &[u8], offset: &mut usize
     ensures { λ _. ⌜ now (offset .exit) ≡ seen (variable (remove (now (name .entry)))) (now (image .entry)) .offset ⌝ }
     ensures { λ _. ⌜ now (image .exit) ≡ seen (variable (remove (now (name .entry)))) (now (image .entry)) .image ⌝ }
 {
-    let removal = told_edit(nvram::remove(image, name));
+    let removal = nvram::remove(image, name).answer();
     *offset = removal.offset;
     removal.code
 }
@@ -198,7 +130,7 @@ pub extern "C" fn nvram_normalize(image: &mut [u8], offset: &mut usize) -> u32
     ensures { λ _. ⌜ now (offset .exit) ≡ seen (variable normalize) (now (image .entry)) .offset ⌝ }
     ensures { λ _. ⌜ now (image .exit) ≡ seen (variable normalize) (now (image .entry)) .image ⌝ }
 {
-    let normal = told_edit(nvram::normalize(image));
+    let normal = nvram::normalize(image).answer();
     *offset = normal.offset;
     normal.code
 }

@@ -1,23 +1,25 @@
-use mathlib.Core.Path.{ap, _∙_}
-use Rattle.nvram_c.specs.Told.{toldOf}
+use mathlib.Core.Path.{_∙_}
+use mathlib.Core.List.{[]}
+use Rattle.nvram.specs.Calls.{withBuffer, countAnswer}
 use borrow.Author.Needs.{needs}
 use Rattle.nvram_c.proofs.nvram_count.Statement.{statement}
 use Rattle.nvram_c.proofs.nvram_count.Tie as tie
 use Rattle.nvram_c.proofs.nvram_count.Reads as reads
 use Rattle.nvram_c.proofs.nvram_count.Lts as lts
 use Rattle.nvram.proofs.count.Reads as count-reads
-use Rattle.nvram_c.proofs.told_count.Reads as told-count-reads
+use Rattle.variables.proofs.Counted.answer.Reads as answer-reads
 
 count-requires : tie.Need-count-requires
 count-requires c κs = search needs
 
-told-count-requires : tie.Need-told-count-requires
-told-count-requires c κs = search needs
+answer-requires : tie.Need-answer-requires
+answer-requires c κs = search needs
 
 returns : tie.Need-returns
+unfolding countAnswer
 returns c =
-    let e = c .told-count .ensures ∙ ap toldOf (c .before .count .ensures) in
+    let e = (λ i. withBuffer (c .answer .ensures i) []) ∙ c .before .count .ensures in
     (λ i. e i .code, (λ i. e i .offset, λ i. e i .amount))
 
 pub nvram-count-spec : {M : Type 1} → statement M
-nvram-count-spec = tie.close (tie.spec count-requires told-count-requires returns)
+nvram-count-spec = tie.close (tie.spec count-requires answer-requires returns)

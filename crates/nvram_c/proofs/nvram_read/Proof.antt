@@ -1,28 +1,28 @@
-use mathlib.Core.Path.{sym, ap, _∙_}
-use Rattle.nvram_c.specs.Told.{toldOf}
-use Rattle.nvram_c.proofs.ToldLaws.{read-buffer}
+use mathlib.Core.Path.{_∙_}
+use Rattle.nvram.specs.Calls.{withBuffer, readAnswer}
 use borrow.Author.Needs.{needs}
 use Rattle.nvram_c.proofs.nvram_read.Statement.{statement}
 use Rattle.nvram_c.proofs.nvram_read.Tie as tie
 use Rattle.nvram_c.proofs.nvram_read.Reads as reads
 use Rattle.nvram_c.proofs.nvram_read.Lts as lts
 use Rattle.nvram.proofs.read.Reads as read-reads
-use Rattle.nvram_c.proofs.told_read.Reads as told-read-reads
+use Rattle.variables.proofs.ReadAnswer.answer.Reads as answer-reads
 
 read-requires : tie.Need-read-requires
 read-requires c κs = search needs
 
-told-read-requires : tie.Need-told-read-requires
-told-read-requires c κs = search needs
+answer-requires : tie.Need-answer-requires
+answer-requires c κs = search needs
 
 same-length : tie.Need-same-length
 same-length c = search needs
 
 returns : tie.Need-returns
+unfolding readAnswer
 returns c =
     let told = c .before .before .before .read .ensures in
-    let e = c .told-read .ensures _ ∙ ap toldOf told in
-    (λ i. e i .code, (λ i. e i .offset, (λ i. e i .amount, sym (read-buffer (c .before .before .before .read .result) _) ∙ (λ i. told i .buffer))))
+    let e = (λ i. withBuffer (c .answer .ensures i) (told 0 .buffer)) ∙ told in
+    (λ i. e i .code, (λ i. e i .offset, (λ i. e i .amount, λ i. e i .buffer)))
 
 pub nvram-read-spec : {M : Type 1} → statement M
-nvram-read-spec = tie.close (tie.spec read-requires told-read-requires same-length returns)
+nvram-read-spec = tie.close (tie.spec read-requires answer-requires same-length returns)
