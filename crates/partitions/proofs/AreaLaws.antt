@@ -18,6 +18,7 @@ use Rattle.partitions.specs.declared.Step.the-variants.{Next, End, Broke
 use Rattle.partitions.specs.declared.Found.{Found}
 use Rattle.partitions.specs.declared.Found.the-variants.{At, Refused}
 use Rattle.partitions.specs.Walk.{partitionOf, pastOf, stepAt, Walk, covered, broken, first, onStep, walkFrom, allowedLength, pickWalk, walk}
+use Rattle.partitions.specs.Cover.{partitionAt, areaAt}
 use Rattle.partitions.specs.Find.{matches, firstMatch, findBy, findOf, areaOf}
 use Rattle.partitions.proofs.WalkLaws.{View, ends, goes, breaks, view}
 
@@ -118,6 +119,11 @@ module _ (image : List ℕ) (p : Partition) (i : Inside image p) where
   unfolding areaOf
   area-byte k h =
       getD-take (bytesOf (p .blocks) .0 - 16) (drop (p .offset + 16) image) k 0 (omega arith) ∙ getD-drop (p .offset + 16) image k 0
+
+-- the area by the rules is that of the partition at the offset
+pub area-at : (image : List ℕ) (at : ℕ) → areaAt image at ≡ areaOf image (At (partitionAt image at))
+unfolding areaAt areaOf partitionAt
+area-at image at = refl
 
 -- an area is empty exactly where find refuses or the partition has one block
 pub data Empty : Found → Type 0 where
