@@ -15,22 +15,8 @@ use Rattle.lists.proofs.Tests.{split, clash}
 use Rattle.lists.proofs.ByteLaws.{same-true}
 use Rattle.lists.proofs.PastedLaws.{pasted-first}
 use Rattle.errors.specs.declared.Error.{Error}
-use Rattle.errors.specs.declared.Error.the-variants.{
-  ImageLength,
-  ZeroLength,
-  PastEnd,
-  Checksum,
-  ZeroChecksum,
-  NoPartition,
-  AreaEnd,
-  StoredName,
-  Escape,
-  Repeated,
-  BadName,
-  NoVariable,
-  NoRoom,
-  ShortBuffer,
-}
+use Rattle.errors.specs.declared.Error.the-variants.{BadName, NoRoom}
+use Rattle.errors.proofs.ErrorLaws.{code-range}
 use Rattle.errors.specs.Errors.{codeOf}
 use Rattle.partitions.specs.declared.Partition.{Partition}
 use Rattle.partitions.specs.declared.Found.the-variants.{At}
@@ -99,20 +85,7 @@ told-reads a value buffer e = rw e (refl, refl, value-start value buffer)
 -- ---- a set that is done
 
 refused-code : (e : Error) → codeOf e ≢ 0
-refused-code ImageLength q = omega arith
-refused-code (ZeroLength at) q = omega arith
-refused-code (PastEnd at) q = omega arith
-refused-code (Checksum at) q = omega arith
-refused-code (ZeroChecksum at) q = omega arith
-refused-code NoPartition q = omega arith
-refused-code (AreaEnd at) q = omega arith
-refused-code (StoredName at) q = omega arith
-refused-code (Escape at) q = omega arith
-refused-code (Repeated at) q = omega arith
-refused-code BadName q = omega arith
-refused-code NoVariable q = omega arith
-refused-code NoRoom q = omega arith
-refused-code ShortBuffer q = omega arith
+refused-code e q = omega (arith, code-range e .0)
 
 -- the code of what a call makes of an area that begins at n
 abbrev codeFrom : ℕ → Outcome → ℕ

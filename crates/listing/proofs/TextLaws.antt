@@ -10,22 +10,8 @@ use borrow.Author.Tests.{ltb-true, ltb-false, lt-ltb, le-ltb}
 use Rattle.lists.specs.Bytes.{Every}
 use Rattle.lists.proofs.Tests.{split, clash}
 use Rattle.errors.specs.declared.Error.{Error}
-use Rattle.errors.specs.declared.Error.the-variants.{
-  ImageLength,
-  ZeroLength,
-  PastEnd,
-  Checksum,
-  ZeroChecksum,
-  NoPartition,
-  AreaEnd,
-  StoredName,
-  Escape,
-  Repeated,
-  BadName,
-  NoVariable,
-  NoRoom,
-  ShortBuffer,
-}
+use Rattle.errors.specs.declared.Error.the-variants.{ImageLength, ZeroLength, PastEnd, Checksum, ZeroChecksum}
+use Rattle.errors.proofs.ErrorLaws.{code-range}
 use Rattle.header.specs.declared.Validity.the-variants.{Valid, Invalid}
 use Rattle.errors.specs.Errors.{codeOf, offsetOf}
 use Rattle.header.specs.declared.Header.{Header}
@@ -78,22 +64,6 @@ decimal-first =
     by-digits (λ n. 0 < n → getD (decimal n) 0 0 ≡ 0x30 → ⊥) (λ n h p. rw (decimal-digit n h) (λ e. omega arith))
     (λ n h ih p e. ih (omega arith) (sym (List·getD-append (decimal (n / 10)) ((48 + n % 10) ∷ []) 0 0 (decimal-some (n / 10)))
     ∙ sym (ap (λ (l : List ℕ). getD l 0 0) (decimal-more n h)) ∙ e))
-
-pub code-most : (e : Error) → codeOf e ≤ 14
-code-most ImageLength = omega arith
-code-most (ZeroLength at) = omega arith
-code-most (PastEnd at) = omega arith
-code-most (Checksum at) = omega arith
-code-most (ZeroChecksum at) = omega arith
-code-most NoPartition = omega arith
-code-most (AreaEnd at) = omega arith
-code-most (StoredName at) = omega arith
-code-most (Escape at) = omega arith
-code-most (Repeated at) = omega arith
-code-most BadName = omega arith
-code-most NoVariable = omega arith
-code-most NoRoom = omega arith
-code-most ShortBuffer = omega arith
 
 -- what breaks a header's rules is answered with its offset
 place-by : (a b c d : Bool) (at : ℕ) (e : Error)
@@ -156,7 +126,7 @@ module _ (image : List ℕ) (h : length image ≤ 65_536) where
   length-by (covered ps) (fine a b) =
       simp length-append (omega (arith, decimal-within 4 (blocksSum ps) (omega arith)))
   length-by (broken e) (stops a) =
-      simp length-append (omega (arith, decimal-within 1 (codeOf e) (omega (arith, code-most e)), decimal-within 4 (offsetOf e) (omega arith)))
+      simp length-append (omega (arith, decimal-within 1 (codeOf e) (omega (arith, code-range e .1)), decimal-within 4 (offsetOf e) (omega arith)))
 
   pub text-by-fits : length (textBy image (walk image)) ≤ 131_072
   text-by-fits = length-by (walk image) walk-within
