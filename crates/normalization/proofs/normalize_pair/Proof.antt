@@ -3,10 +3,26 @@ use native.Mathlib.Omega.{arith}
 use lib.ListN.{length-set}
 use denote.Ref.{now}
 use Rattle.lists.proofs.ByteLaws.{all-bytes}
-use Rattle.normalization.proofs.NormalizeLaws.{pair-recodes, pair-shorter, pair-made}
+use Rattle.normalization.proofs.NormalizeLaws.{Shorter, pair-recodes, pair-shorter, pair-made}
 use borrow.Author.Needs.{needs}
 use Rattle.normalization.proofs.normalize_pair.Statement.{statement}
 use Rattle.normalization.proofs.normalize_pair.Tie as tie
+
+-- the function's entry
+abbrev start : tie.After-known-told → tie.Start
+start c = c .before .before .before .before .before .before .before .before .before .before .before .before
+
+-- the value in canonical form ends before the pair's old 0x00
+shorter : (c : tie.After-known-told)
+    → Shorter (now (start c .args .area)) (start c .args .at) (start c .args .equals) (start c .args .end) (start c .args .to) (c .before .m .given .0 .0)
+    (c .before .before .before .before .before .recode .last .0)
+shorter c =
+    let r = c .before .before .before .before .before in
+    let v = r .before .before .before .before in
+    let s = v .before .before in
+    pair-shorter (start c .pre) (v .move-bytes .last .0) (v .move-bytes .ensures)
+    (all-bytes (now (start c .args .area)) (λ i. omega (arith, s .slice-known .given i))) (r .recode .result) (r .recode .ensures .0)
+    (c .before .m .given .0 .0) (c .before .m .given .1) (r .recode .last .0) (r .recode .ensures .1)
 
 add-n : tie.Need-add-n
 add-n c = search needs
@@ -33,34 +49,13 @@ add-past : tie.Need-add-past
 add-past c = search needs
 
 add-past-2 : tie.Need-add-past-2
-add-past-2 c =
-    let r = c .before .before .before .before .before in
-    let v = r .before .before .before .before in
-    let s = v .before .before in
-    let a = s .before .args in
-    let h = pair-shorter (s .before .pre) (v .move-bytes .last .0) (v .move-bytes .ensures) (all-bytes (now (a .area)) (λ i. omega (arith, s .slice-known .given i)))
-    (r .recode .result) (r .recode .ensures .0) (c .before .m .given .0 .0) (c .before .m .given .1) (r .recode .last .0) (r .recode .ensures .1) in
-    omega (arith, h .ends, h .long, s .before .pre .inside)
+add-past-2 c = omega (arith, shorter c .ends, shorter c .long, start c .pre .inside)
 
 slice-write-area : tie.Need-slice-write-area
-slice-write-area c =
-    let r = c .before .before .before .before .before in
-    let v = r .before .before .before .before in
-    let s = v .before .before in
-    let a = s .before .args in
-    let h = pair-shorter (s .before .pre) (v .move-bytes .last .0) (v .move-bytes .ensures) (all-bytes (now (a .area)) (λ i. omega (arith, s .slice-known .given i)))
-    (r .recode .result) (r .recode .ensures .0) (c .before .m .given .0 .0) (c .before .m .given .1) (r .recode .last .0) (r .recode .ensures .1) in
-    omega (arith, h .ends, h .long, s .before .pre .inside)
+slice-write-area c = omega (arith, shorter c .ends, shorter c .long, start c .pre .inside)
 
 add-result : tie.Need-add-result
-add-result c =
-    let r = c .before .before .before .before .before in
-    let v = r .before .before .before .before in
-    let s = v .before .before in
-    let a = s .before .args in
-    let h = pair-shorter (s .before .pre) (v .move-bytes .last .0) (v .move-bytes .ensures) (all-bytes (now (a .area)) (λ i. omega (arith, s .slice-known .given i)))
-    (r .recode .result) (r .recode .ensures .0) (c .before .m .given .0 .0) (c .before .m .given .1) (r .recode .last .0) (r .recode .ensures .1) in
-    omega (arith, h .ends, h .long, s .before .pre .inside)
+add-result c = omega (arith, shorter c .ends, shorter c .long, start c .pre .inside)
 
 enum-told : tie.Need-enum-told
 enum-told c = search needs
