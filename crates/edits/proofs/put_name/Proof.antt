@@ -1,3 +1,4 @@
+-- `edits::put_name` meets its contract: the name is copied, and `=` is written right after it.
 use Prim.Native.Nat.{_+_}
 use mathlib.Core.Path.{refl}
 use native.Mathlib.Omega.{arith}

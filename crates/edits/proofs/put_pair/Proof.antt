@@ -1,3 +1,4 @@
+-- `edits::put_pair` meets its contract: name and `=`, then value and 0x00, one piece after the other.
 use native.Mathlib.Omega.{arith}
 use denote.Ref.{now}
 use Rattle.values.specs.Value.{encode}

@@ -1,3 +1,4 @@
+-- `edits::put_value` meets its contract: the canonical form fills the part that is lent, and 0x00 is written right after it.
 use Prim.Native.Nat.{_+_}
 use native.Mathlib.Omega.{arith}
 use denote.Ref.{now}

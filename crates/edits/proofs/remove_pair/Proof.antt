@@ -1,3 +1,4 @@
+-- `edits::remove_pair` meets its contract, by the place of the pair: the tail takes its place, or there is none.
 use mathlib.Core.Path.{sym, _∙_}
 use native.Mathlib.Omega.{arith}
 use denote.Ref.{now}

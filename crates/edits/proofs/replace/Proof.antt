@@ -1,3 +1,4 @@
+-- `edits::replace` meets its contract: room is judged before the first byte is written; then the tail is moved and the pair is put before it.
 use Prim.Native.Nat.{ℕ, _+_}
 use mathlib.Core.Path.{_≡_, ap, _∙_}
 use mathlib.Core.List.{List}

@@ -1,3 +1,4 @@
+-- `edits::set_pair` meets its contract: the pair at its place is replaced, or a new one is put at the end of the pairs.
 use mathlib.Core.Path.{sym, _∙_}
 use native.Mathlib.Omega.{arith}
 use denote.Ref.{now}

@@ -1,3 +1,4 @@
+-- `edits::shift_tail` meets its contract: the tail is moved, and what follows it is filled with 0x00.
 use denote.Ref.{now}
 use Rattle.edits.proofs.PutLaws.{tail-shifted}
 use borrow.Author.Needs.{needs}

@@ -1,3 +1,4 @@
+-- `examples::area_of` is safe: every part that it takes lies inside the image.
 use mathlib.Core.Path.{sym}
 use native.Mathlib.Omega.{arith}
 use lib.Seq.{length-take-le}

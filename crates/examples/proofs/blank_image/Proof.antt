@@ -1,3 +1,4 @@
+-- `examples::blank_image` meets its contract: the length of the array.
 use mathlib.Core.Path.{sym}
 use Prim.Native.Nat.{ℕ}
 use lib.ListN.{length-replicate}

@@ -1,3 +1,4 @@
+-- `examples::leading` is safe and ends: its index stays inside the slice.
 use Prim.Native.Nat.{_≤_, _-_}
 use lib.ListN.{length}
 use borrow.Author.Needs.{needs}

@@ -1,3 +1,4 @@
+-- `examples::set_first` is safe: the part of the value that it takes lies inside it.
 use mathlib.Core.Path.{sym}
 use native.Mathlib.Omega.{arith}
 use lib.Seq.{length-take-le}

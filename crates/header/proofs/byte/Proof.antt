@@ -1,3 +1,4 @@
+-- `header::byte` meets its contract: inside the image, or past its end.
 use borrow.Author.Needs.{needs}
 use Prim.Native.Nat.{_+_}
 use denote.Ref.{now}

@@ -1,3 +1,4 @@
+-- `header::checksum_at` meets its contract: the closed form of the sum of its 15 bytes.
 use borrow.Author.Needs.{needs}
 use native.Mathlib.Omega.{arith}
 use denote.Ref.{now}

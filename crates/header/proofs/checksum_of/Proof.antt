@@ -1,3 +1,4 @@
+-- `header::checksum_of` meets its contract: the sum fits, and is folded.
 use borrow.Author.Needs.{needs}
 use Prim.Native.Nat.{ℕ, _+_, _/_, _%_}
 use mathlib.Core.Path.{ap, _∙_}

@@ -1,3 +1,4 @@
+-- `header::cut_name` meets its contract, byte by byte.
 use borrow.Author.Needs.{needs}
 use mathlib.Core.List.{[], _∷_}
 use Rattle.header.specs.Header.{nameAt}

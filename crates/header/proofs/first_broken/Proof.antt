@@ -1,3 +1,4 @@
+-- `header::first_broken` meets its contract, test by test.
 use borrow.Author.Needs.{needs}
 use Rattle.header.proofs.ValidityLaws.{zero-length, past-end, checksum-differs, checksum-zero, no-rule-broken}
 use Rattle.header.proofs.first_broken.Statement.{statement}

@@ -1,3 +1,4 @@
+-- `header::folded` meets its contract: 0, or the case of a sum above it.
 use borrow.Author.Needs.{needs}
 use Rattle.header.proofs.ChecksumLaws.{closed-zero, closed-positive}
 use Rattle.header.proofs.folded.Statement.{statement}

@@ -1,3 +1,4 @@
+-- `header::sum_bytes` meets its contract. The loop's invariant: the sum so far and that of the bytes left are the whole sum.
 use borrow.Author.Needs.{needs}
 use Prim.Native.Nat.{_+_, _-_, _*_, _≤_}
 use mathlib.Core.Path.{_≡_}

@@ -1,3 +1,4 @@
+-- `header::whole_name` meets its contract, byte by byte.
 use borrow.Author.Needs.{needs}
 use mathlib.Core.Path.{refl}
 use Rattle.header.specs.Header.{nameAt}

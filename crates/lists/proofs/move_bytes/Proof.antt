@@ -1,3 +1,4 @@
+-- `lists::move_bytes` meets its contract, by the direction of the move.
 use mathlib.Core.Path.{_∙_}
 use denote.Ref.{now}
 use Rattle.lists.proofs.MoveLaws.{moved-long, moved-from, moved-to, moved-inside}

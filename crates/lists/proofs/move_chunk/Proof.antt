@@ -1,3 +1,4 @@
+-- `lists::move_chunk` meets its contract: all bytes are read before any is written.
 use mathlib.Core.Path.{refl}
 use Rattle.lists.proofs.MoveLaws.{chunk-moved}
 use borrow.Author.Needs.{needs}

@@ -1,3 +1,4 @@
+-- `lists::move_down` meets its contract: whole chunks, and then what is left.
 use Rattle.lists.proofs.MoveLaws.{down-rest}
 use borrow.Author.Needs.{needs}
 use Rattle.lists.proofs.move_down.Statement.{statement}

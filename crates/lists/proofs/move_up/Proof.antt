@@ -1,3 +1,4 @@
+-- `lists::move_up` meets its contract: what is above whole chunks, and then those.
 use Rattle.lists.proofs.MoveLaws.{up-rest}
 use borrow.Author.Needs.{needs}
 use Rattle.lists.proofs.move_up.Statement.{statement}

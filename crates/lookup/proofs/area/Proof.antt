@@ -1,3 +1,4 @@
+-- `lookup::area` meets its contract: the part after the header of what find answers.
 use Prim.Native.Nat.{_+_, _≤_}
 use native.Mathlib.Omega.{arith}
 use lib.ListN.{length}

@@ -1,3 +1,4 @@
+-- `lookup::find` meets its contract. The loop's invariant: what the turns so far make of the partitions left is the answer.
 use Prim.Native.Nat.{ℕ, _-_, _<_, _≤_}
 use mathlib.Core.Path.{_≡_, sym, _∙_, subst}
 use mathlib.Core.List.{List}

@@ -1,3 +1,4 @@
+-- `lookup::first_named` meets its contract, by what was found before.
 use borrow.Author.Needs.{needs}
 use Rattle.lookup.proofs.first_named.Statement.{statement}
 use Rattle.lookup.proofs.first_named.Tie as tie

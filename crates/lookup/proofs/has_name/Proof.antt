@@ -1,3 +1,4 @@
+-- `lookup::has_name` meets its contract: the name is read and compared.
 use borrow.Author.Needs.{needs}
 use denote.Ref.{now}
 use Rattle.lookup.proofs.NameLaws.{name-read}

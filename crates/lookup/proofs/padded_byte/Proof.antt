@@ -1,3 +1,4 @@
+-- `lookup::padded_byte` meets its contract: inside the name, or past its end.
 use mathlib.Core.Path.{sym}
 use denote.Ref.{now}
 use lib.ListN.{List·getD-eq-default}

@@ -1,3 +1,4 @@
+-- `lookup::same_padded` meets its contract. The loop's invariant: the bytes before i agree.
 use Prim.Native.Nat.{_≤_, _-_}
 use mathlib.Core.Path.{_≡_, refl}
 use native.Mathlib.Omega.{arith}

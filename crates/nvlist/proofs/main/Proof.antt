@@ -1,3 +1,4 @@
+-- `nvlist` is safe: what it reads fits its buffer, and what it writes was put there.
 use Prim.Native.Nat.{_≤_}
 use mathlib.Core.Path.{sym, _∙_}
 use native.Mathlib.Omega.{arith}

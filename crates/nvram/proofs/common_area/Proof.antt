@@ -1,3 +1,4 @@
+-- `nvram::common_area` meets its contract: the offsets after the header and after the partition fit.
 use Prim.Native.Nat.{_+_, _≤_}
 use native.Mathlib.Omega.{arith}
 use lib.ListN.{length}

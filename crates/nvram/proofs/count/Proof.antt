@@ -1,3 +1,4 @@
+-- `nvram::count` meets its contract, by where the area stands and what the call on it answers.
 use native.Mathlib.Omega.{arith}
 use denote.Ref.{now}
 use Rattle.nvram.proofs.CodeLaws.{AreaAt, span-at, span-not, count-done, count-moved, count-offset, count-not}

@@ -1,3 +1,4 @@
+-- `nvram::moved_edit` meets its contract, case by case.
 use native.Mathlib.Omega.{arith}
 use Rattle.nvram.proofs.CodeLaws.{edit-done, edit-moved, edit-offset}
 use borrow.Author.Needs.{needs}

@@ -1,3 +1,4 @@
+-- `nvram::moved_error` meets its contract, case by case.
 use native.Mathlib.Omega.{arith}
 use Rattle.nvram.specs.Calls.{moved}
 use borrow.Author.Needs.{needs}

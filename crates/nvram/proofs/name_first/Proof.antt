@@ -1,3 +1,4 @@
+-- `nvram::name_first` meets its contract, by the check of the name.
 use mathlib.Core.Path.{sym, _∙_}
 use Rattle.nvram.proofs.CodeLaws.{bad-first, good-second}
 use borrow.Author.Needs.{needs}

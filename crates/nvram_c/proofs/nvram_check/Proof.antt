@@ -1,3 +1,4 @@
+-- `nvram_check` meets its contract: each output is the field of the answer.
 use mathlib.Core.Path.{ap, _∙_}
 use Rattle.partitions.specs.Answers.{checkAnswer}
 use borrow.Author.Needs.{needs}

@@ -1,3 +1,4 @@
+-- `nvram_listing` meets its contract: each output is the field of the answer.
 use mathlib.Core.Path.{ap, _∙_}
 use Rattle.listing.specs.Listed.{listAnswer}
 use borrow.Author.Needs.{needs}

@@ -1,3 +1,4 @@
+-- `nvram_read` meets its contract: each output is the field of the answer.
 use mathlib.Core.Path.{_∙_}
 use Rattle.nvram.specs.Calls.{withBuffer, readAnswer}
 use borrow.Author.Needs.{needs}

@@ -1,3 +1,4 @@
+-- `nvram_set` meets its contract: each output is the field of the answer.
 use mathlib.Core.Path.{_∙_}
 use mathlib.Core.List.{[]}
 use Rattle.nvram.specs.Calls.{withBuffer, editAnswer}

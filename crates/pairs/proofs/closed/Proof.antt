@@ -1,3 +1,4 @@
+-- `pairs::closed` meets its contract, case by case.
 use mathlib.Core.Path.{sym, ap}
 use Rattle.pairs.specs.declared.PairAt.{PairAt}
 use Rattle.pairs.specs.Places.{closedOf}

@@ -1,3 +1,4 @@
+-- `pairs::first_place` meets its contract, case by case.
 use mathlib.Core.Path.{sym, ap}
 use Rattle.pairs.specs.declared.Place.{Place}
 use Rattle.pairs.specs.Places.{firstPlace}

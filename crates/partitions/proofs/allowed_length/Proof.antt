@@ -1,3 +1,4 @@
+-- `partitions::allowed_length` meets its contract, test by test.
 use borrow.Author.Tests.{eq-eqb, ne-eqb, le-leb, lt-leb}
 use Rattle.partitions.specs.Walk.{allowedLength}
 use Rattle.partitions.proofs.allowed_length.Statement.{statement}

@@ -1,3 +1,4 @@
+-- `partitions::check` meets its contract. The loop's invariant: the partitions counted and those left are all of them.
 use Prim.Native.Nat.{ℕ, _-_, _<_, _≤_}
 use mathlib.Core.List.{List}
 use Rattle.partitions.specs.declared.Partition.{Partition}

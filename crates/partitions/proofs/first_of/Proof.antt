@@ -1,3 +1,4 @@
+-- `partitions::first_of` meets its contract, by what was found before.
 use borrow.Author.Needs.{needs}
 use Rattle.partitions.proofs.first_of.Statement.{statement}
 use Rattle.partitions.proofs.first_of.Tie as tie

@@ -1,3 +1,4 @@
+-- `repeats::next_start` meets its contract: a piece begins right after the next 0x00.
 use Rattle.repeats.proofs.StartLaws.{next-found, next-end}
 use borrow.Author.Needs.{needs}
 use Rattle.repeats.proofs.next_start.Statement.{statement}

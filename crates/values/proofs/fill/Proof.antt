@@ -1,3 +1,4 @@
+-- `values::fill` meets its contract: the part that is lent is filled.
 use denote.Ref.{now}
 use Rattle.lists.proofs.MoveLaws.{part-filled}
 use borrow.Author.Needs.{needs}

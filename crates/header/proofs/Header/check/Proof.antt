@@ -1,3 +1,4 @@
+-- `Header::check` meets its contract: the rules are tested with the checksum that is computed.
 use borrow.Author.Needs.{needs}
 use Rattle.header.proofs.ValidityLaws.{check-read}
 use Rattle.header.proofs.Header.check.Statement.{statement}

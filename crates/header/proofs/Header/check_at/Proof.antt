@@ -1,3 +1,4 @@
+-- `Header::check_at` meets its contract: a header that is cut off breaks 2 or 3, and a whole one is judged by its bytes.
 use borrow.Author.Needs.{needs}
 use Prim.Native.Nat.{_-_}
 use mathlib.Core.Path.{refl}

@@ -1,3 +1,4 @@
+-- `Header::computed_checksum` meets its contract: the closed form of the plain sum is the checksum.
 use borrow.Author.Needs.{needs}
 use native.Mathlib.Omega.{arith}
 use mathlib.Core.Path.{refl}

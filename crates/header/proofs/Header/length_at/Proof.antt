@@ -1,3 +1,4 @@
+-- `Header::length_at` meets its contract: two bytes, the high one first.
 use borrow.Author.Needs.{needs}
 use Prim.Native.Nat.{_+_, _*_}
 use Rattle.header.specs.Header.{headerAt}

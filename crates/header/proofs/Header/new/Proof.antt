@@ -1,3 +1,4 @@
+-- `Header::new` meets its contract, by the two tests of the length.
 use borrow.Author.Needs.{needs}
 use Rattle.header.proofs.ValidityLaws.{new-zero, new-over, new-allowed}
 use Rattle.header.proofs.Header.new.Statement.{statement}

@@ -1,3 +1,4 @@
+-- `Header::read` meets its contract, field by field.
 use borrow.Author.Needs.{needs}
 use Rattle.header.specs.Header.{headerAt}
 use Rattle.header.proofs.Header.read.Statement.{statement}

@@ -1,3 +1,4 @@
+-- `Header::signature_at` meets its contract: the header's first byte.
 use borrow.Author.Needs.{needs}
 use Rattle.header.specs.Header.{headerAt}
 use Rattle.header.proofs.Header.signature_at.Statement.{statement}

@@ -1,3 +1,4 @@
+-- `Cursor::step` meets its contract: the end, a header that breaks a rule, or the partition and the offset after it.
 use borrow.Author.Needs.{needs}
 use mathlib.Core.Path.{sym}
 use native.Mathlib.Omega.{arith}
