@@ -4,10 +4,10 @@ ghost use mathlib.Core.Path.{_≡_};
 ghost use mathlib.Core.List.{[], _∷_};
 ghost use Prim.Native.Nat.{_+_, _≤_};
 ghost use lib.ListN.{length, take, drop};
-ghost use Rattle.lists.specs.Pasted.{pasted};
+ghost use Rattle.lists.specs.Pasted.{pasted, writtenIn};
 ghost use Rattle.lists.specs.Find.{untilEither};
 ghost use mathlib.Core.Bool.{true};
-ghost use Rattle.values.specs.Value.{spelled, escaped, mark, runBytes, encode, writtenOf, writtenIn};
+ghost use Rattle.values.specs.Value.{spelled, escaped, mark, runBytes, encode, writtenOf};
 ghost use Rattle.values.specs.Value.{recodable, recoded, recodedOf, recodedIn};
 ghost use Rattle.encoding.specs.Leading.{leading};
 

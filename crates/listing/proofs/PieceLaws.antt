@@ -7,30 +7,30 @@ use native.Mathlib.Omega.{arith}
 use lib.ListN.{length, set, length-append}
 use lib.Dec.{leb}
 use borrow.Author.Tests.{le-leb, lt-leb, leb-true}
-use Rattle.lists.specs.Pasted.{pasted}
+use Rattle.lists.specs.Pasted.{pasted, writtenIn}
 use Rattle.lists.proofs.Tests.{split, clash}
 use Rattle.lists.proofs.PastedLaws.{set-pasted, set-after, pasted-under, pasted-more, length-pasted}
 use Rattle.errors.specs.declared.Error.the-variants.{ShortBuffer}
 use Rattle.listing.specs.declared.Listed.{Listed}
 use Rattle.listing.specs.declared.Listed.the-variants.{Written, Refused}
 use Rattle.listing.specs.Text.{decimal, hexDigit, hexByte}
-use Rattle.listing.specs.Listed.{listedOf, listedIn}
+use Rattle.listing.specs.Listed.{listedOf}
 use Rattle.listing.specs.Parts.{Put}
 use Rattle.listing.proofs.WordLaws.{decimal-digit, decimal-more, length-more}
 
 module _ (t d : List ℕ) where
-  pub listed-short : length d < length t → (Refused ShortBuffer ≡ listedOf t (length d)) × (d ≡ listedIn t d)
-  unfolding listedOf listedIn
+  pub listed-short : length d < length t → (Refused ShortBuffer ≡ listedOf t (length d)) × (d ≡ writtenIn t d)
+  unfolding listedOf writtenIn
   listed-short h = (rw (lt-leb _ _ h), rw (lt-leb _ _ h))
 
-  pub listed-written : {n : ℕ} {b : List ℕ} → Put d 0 t n b → (Written n ≡ listedOf t (length d)) × (b ≡ listedIn t d)
-  unfolding listedOf listedIn
+  pub listed-written : {n : ℕ} {b : List ℕ} → Put d 0 t n b → (Written n ≡ listedOf t (length d)) × (b ≡ writtenIn t d)
+  unfolding listedOf writtenIn
   listed-written {n} {b} p =
       let e : n ≡ length t = p .end ∙ zero-add (length t) in
       let h : length t ≤ length d = omega (arith, p .room) in
       (rw (le-leb _ _ h, e), rw (le-leb _ _ h) (p .text))
 
-  pub listed-as : {u : List ℕ} {r : Listed} {b : List ℕ} → t ≡ u → (r ≡ listedOf t (length d)) × (b ≡ listedIn t d) → (r ≡ listedOf u (length d)) × (b ≡ listedIn u d)
+  pub listed-as : {u : List ℕ} {r : Listed} {b : List ℕ} → t ≡ u → (r ≡ listedOf t (length d)) × (b ≡ writtenIn t d) → (r ≡ listedOf u (length d)) × (b ≡ writtenIn u d)
   listed-as e q = rw e at q
 
 -- a text that is written lies inside the buffer

@@ -4,7 +4,6 @@ use mathlib.Core.Bool.{Bool, true, false}
 use mathlib.Core.List.{List}
 use lib.ListN.{length}
 use lib.Dec.{leb}
-use Rattle.lists.specs.Pasted.{pasted, pickList}
 use Rattle.errors.specs.declared.Error.the-variants.{ShortBuffer}
 use Rattle.errors.specs.Errors.{codeOf}
 use Rattle.listing.specs.declared.Listed.{Listed}
@@ -18,10 +17,6 @@ pickListed false a b = b
 -- the text's length where the buffer has room for it; else code 14
 unfoldable pub listedOf : List ℕ → ℕ → Listed
 listedOf text room = pickListed (leb (length text) room) (Written (length text)) (Refused ShortBuffer)
-
--- the buffer afterwards: the text at its start and the bytes after it kept; untouched where it is too short
-unfoldable pub listedIn : List ℕ → List ℕ → List ℕ
-listedIn text buffer = pickList (leb (length text) (length buffer)) (pasted buffer 0 text) buffer
 
 -- the caller's view: code 0 and the length, or the error's code and 0
 abbrev pub listAnswer : Listed → ListAnswer

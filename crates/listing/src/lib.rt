@@ -3,9 +3,10 @@ ghost use mathlib.Core.Path.{_≡_};
 ghost use mathlib.Core.List.{[], _∷_, _++_};
 ghost use Prim.Native.Nat.{_+_, _≤_, _<_};
 ghost use lib.ListN.{length};
+ghost use Rattle.lists.specs.Pasted.{writtenIn};
 ghost use Rattle.partitions.specs.Walk.{broken, walk};
 ghost use Rattle.listing.specs.Text.{decimal, hexDigit, hexByte, visible, shownName, line, textBy, listingText};
-ghost use Rattle.listing.specs.Listed.{listedOf, listedIn, listAnswer};
+ghost use Rattle.listing.specs.Listed.{listedOf, listAnswer};
 ghost use Rattle.listing.specs.Parts.{Put, measuredOf, linesOf, Covered};
 use errors::Error;
 use header::Header;
@@ -259,7 +260,7 @@ fn put_lines(text: &mut [u8], start: usize, image: &[u8]) -> usize
 // A text of one piece.
 fn list_piece(text: &mut [u8], piece: &[u8]) -> Listed
     ensures { λ r. ⌜ r ≡ listedOf (now (piece .entry)) (length (now (text .entry))) ⌝ }
-    ensures { λ r. ⌜ now (text .exit) ≡ listedIn (now (piece .entry)) (now (text .entry)) ⌝ }
+    ensures { λ r. ⌜ now (text .exit) ≡ writtenIn (now (piece .entry)) (now (text .entry)) ⌝ }
 {
     if text.len() < piece.len() {
         return Listed::Refused(Error::ShortBuffer);
@@ -271,7 +272,7 @@ fn list_piece(text: &mut [u8], piece: &[u8]) -> Listed
 // The text of a refused image.
 fn list_refused(text: &mut [u8], e: Error) -> Listed
     ensures { λ r. ⌜ r ≡ listedOf (textBy [] (broken e)) (length (now (text .entry))) ⌝ }
-    ensures { λ r. ⌜ now (text .exit) ≡ listedIn (textBy [] (broken e)) (now (text .entry)) ⌝ }
+    ensures { λ r. ⌜ now (text .exit) ≡ writtenIn (textBy [] (broken e)) (now (text .entry)) ⌝ }
 {
     let code = e.code() as usize;
     let offset = e.offset();
@@ -292,7 +293,7 @@ fn list_accepted(text: &mut [u8], image: &[u8], bytes: usize, blocks: usize) -> 
     requires { ⌜ length (now image) ≤ 65536 ⌝ }
     requires { ⌜ measuredOf (now image) ≡ Measured.Lines bytes blocks ⌝ }
     ensures { λ r. ⌜ r ≡ listedOf (textBy (now (image .entry)) (walk (now (image .entry)))) (length (now (text .entry))) ⌝ }
-    ensures { λ r. ⌜ now (text .exit) ≡ listedIn (textBy (now (image .entry)) (walk (now (image .entry)))) (now (text .entry)) ⌝ }
+    ensures { λ r. ⌜ now (text .exit) ≡ writtenIn (textBy (now (image .entry)) (walk (now (image .entry)))) (now (text .entry)) ⌝ }
 {
     if text.len() < bytes + decimal_len(blocks) + 27 {
         return Listed::Refused(Error::ShortBuffer);
@@ -307,7 +308,7 @@ fn list_accepted(text: &mut [u8], image: &[u8], bytes: usize, blocks: usize) -> 
 // Writes the listing of an image to the buffer's start; nothing is written where it has no room.
 pub fn listing(image: &[u8], text: &mut [u8]) -> Listed
     ensures { λ r. ⌜ r ≡ listedOf (listingText (now (image .entry))) (length (now (text .entry))) ⌝ }
-    ensures { λ r. ⌜ now (text .exit) ≡ listedIn (listingText (now (image .entry))) (now (text .entry)) ⌝ }
+    ensures { λ r. ⌜ now (text .exit) ≡ writtenIn (listingText (now (image .entry))) (now (text .entry)) ⌝ }
 {
     if MAX_IMAGE < image.len() {
         return list_piece(text, b"too long\n");

@@ -14,6 +14,10 @@ abbrev pub pickList : Bool → List ℕ → List ℕ → List ℕ
 pickList true a b = a
 pickList false a b = b
 
+-- a buffer with bytes at its start and those after them kept, if there is room for them; else as it was
+unfoldable pub writtenIn : List ℕ → List ℕ → List ℕ
+writtenIn l buffer = pickList (leb (length l) (length buffer)) (pasted buffer 0 l) buffer
+
 -- d with its n bytes at `from` written over it at `to`, if both lie inside it; else d
 unfoldable pub movedBytes : List ℕ → ℕ → ℕ → ℕ → List ℕ
 movedBytes d from to n =

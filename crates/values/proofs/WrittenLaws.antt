@@ -8,11 +8,11 @@ use lib.Dec.{leb}
 use borrow.Author.Tests.{le-leb, lt-leb, leb-true, leb-false}
 use borrow.Rule.Slice.PartMut.{putMid, midOf, mid-len}
 use lib.Seq.{take-all}
-use Rattle.lists.specs.Pasted.{pasted}
+use Rattle.lists.specs.Pasted.{pasted, writtenIn}
 use Rattle.lists.proofs.PastedLaws.{part-copied}
 use Rattle.lists.proofs.Tests.{split, clash}
 use Rattle.values.specs.declared.Written.the-variants.{Length, NoRoom}
-use Rattle.values.specs.Value.{writtenOf, writtenIn, part}
+use Rattle.values.specs.Value.{writtenOf, part}
 
 module _ (l : List ℕ) (room : ℕ) where
   pub written-fits : length l ≤ room → writtenOf l room ≡ Length (length l)

@@ -92,10 +92,6 @@ encode xs = encodeFrom 0x00 0 xs
 unfoldable pub writtenOf : List ℕ → ℕ → Written
 writtenOf l room = pickWritten (leb (length l) room) (Length (length l)) NoRoom
 
--- the buffer afterwards: the bytes at its start if there is room for them, else as it was
-unfoldable pub writtenIn : List ℕ → List ℕ → List ℕ
-writtenIn l buffer = pickList (leb (length l) (length buffer)) (pasted buffer 0 l) buffer
-
 -- ---- a part of a list
 
 -- the bytes from `from` up to `to`

@@ -2,9 +2,9 @@
 ghost use mathlib.Core.Path.{_≡_};
 ghost use Prim.Native.Nat.{_+_, _-_, _≤_};
 ghost use lib.ListN.{length, drop, replicate};
-ghost use Rattle.lists.specs.Pasted.{pasted};
+ghost use Rattle.lists.specs.Pasted.{pasted, writtenIn};
 ghost use Rattle.lists.specs.Find.{untilEither};
-ghost use Rattle.values.specs.Value.{runByte, decode, writtenOf, writtenIn, part, Passed};
+ghost use Rattle.values.specs.Value.{runByte, decode, writtenOf, part, Passed};
 ghost use Rattle.values.specs.Stops.{firstStop, nextStop};
 
 // Bytes written to a buffer: how many, or none for want of room.

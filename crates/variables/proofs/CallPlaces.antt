@@ -7,6 +7,7 @@ use native.Mathlib.Omega.{arith}
 use lib.ListN.{length, length-append}
 use lib.Dec.{ltb}
 use borrow.Author.Tests.{lt-ltb, le-ltb}
+use Rattle.lists.specs.Pasted.{writtenIn}
 use Rattle.lists.specs.Bytes.{sameBytes}
 use Rattle.lists.proofs.Tests.{split, clash}
 use Rattle.errors.specs.declared.Error.{Error}
@@ -14,7 +15,7 @@ use Rattle.errors.specs.declared.Error.the-variants.{BadName, NoVariable, NoRoo
 use Rattle.names.specs.declared.NameCheck.the-variants.{Good, Wrong}
 use Rattle.names.specs.Name.{nameCheck, isGood, goodName}
 use Rattle.values.specs.declared.Written.the-variants.{Length, NoRoom}
-use Rattle.values.specs.Value.{decode, part, writtenOf, writtenIn}
+use Rattle.values.specs.Value.{decode, part, writtenOf}
 use Rattle.values.proofs.WrittenLaws.{length-told, fits-told, no-room-told, pasted-in, kept-in}
 use Rattle.pairs.specs.declared.Scanned.the-variants.{Pairs, Refused}
 use Rattle.pairs.specs.declared.Place.{Place}
