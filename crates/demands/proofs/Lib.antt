@@ -1,6 +1,6 @@
-pub mod AreaInImage
 pub mod ReadKeeps
 pub mod ModelLaws
+pub mod Agree
 pub mod Refinement
 pub mod Demand2Laws
 pub mod NormalizeTwice

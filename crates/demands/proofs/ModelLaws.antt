@@ -11,10 +11,10 @@ use Rattle.lists.proofs.Tests.{split}
 use Rattle.values.specs.Value.{decode, encode}
 use Rattle.values.proofs.EncodeLaws.{decode-encode}
 use Rattle.pairs.specs.Area.{Pair, pairsBytes}
-use Rattle.variables.specs.Edits.{areaOf, canonicalPair, setPair, removePair, normalizePairs, Lookup, found, missing, lookup}
+use Rattle.variables.specs.Edits.{areaBytes, canonicalPair, setPair, removePair, normalizePairs, Lookup, found, missing, lookup}
 use Rattle.pairs.specs.Rules.{Entry}
-use Rattle.pairs.proofs.ParseLaws.{length-pair, length-pairs, pair-front}
-use Rattle.variables.proofs.EditLaws.{set-first, set-next, remove-first, remove-next, lookup-first, lookup-next}
+use Rattle.pairs.proofs.ParseLaws.{pairs-none, length-pair, length-pairs, pair-front}
+use Rattle.variables.proofs.EditLaws.{area-is, set-none, set-first, set-next, remove-none, remove-first, remove-next, lookup-none, lookup-first, lookup-next, normalize-none, normalize-more}
 use Rattle.pairs.proofs.EntryLaws.{entryOf, entriesOf}
 use Rattle.demands.specs.Model.{same, newEntry, total, setEntry, dropEntry, newSizes, Value, some, none, valueOf, canonicalBytes, canonicalArea}
 
@@ -60,8 +60,8 @@ canonical-entry : (name value : List ℕ) → entryOf (canonicalPair name value)
 canonical-entry name value = λ i. record { name = name; value = decode-encode value i; size = length-pair (canonicalPair name value) i }
 
 pub entries-set : (name value : List ℕ) (ps : List Pair) → entriesOf (setPair name value ps) ≡ setEntry name value (entriesOf ps)
-unfolding setPair setEntry
-entries-set name value [] = λ i. canonical-entry name value i ∷ []
+unfolding setEntry
+entries-set name value [] = ap entriesOf (set-none name value) ∙ (λ i. canonical-entry name value i ∷ [])
 entries-set name value (p ∷ ps) =
     split (sameBytes name (p .name))
     (λ t. ap entriesOf (set-first name p ps t value) ∙ (λ i. canonical-entry name value i ∷ entriesOf ps)
@@ -70,8 +70,8 @@ entries-set name value (p ∷ ps) =
     ∙ sym (entry-set-next name (entryOf p) (entriesOf ps) t value))
 
 pub entries-remove : (name : List ℕ) (ps : List Pair) → entriesOf (removePair name ps) ≡ dropEntry name (entriesOf ps)
-unfolding removePair dropEntry
-entries-remove name [] = refl
+unfolding dropEntry
+entries-remove name [] = ap entriesOf (remove-none name)
 entries-remove name (p ∷ ps) =
     split (sameBytes name (p .name))
     (λ t. ap entriesOf (remove-first name p ps t) ∙ sym (entry-drop-first name (entryOf p) (entriesOf ps) t))
@@ -79,9 +79,9 @@ entries-remove name (p ∷ ps) =
     ∙ sym (entry-drop-next name (entryOf p) (entriesOf ps) t))
 
 pub entries-normalize : (ps : List Pair) → entriesOf (normalizePairs ps) ≡ newSizes (entriesOf ps)
-unfolding normalizePairs newSizes
-entries-normalize [] = refl
-entries-normalize (p ∷ ps) = λ i. canonical-entry (p .name) (decode (p .stored)) i ∷ entries-normalize ps i
+unfolding newSizes
+entries-normalize [] = ap entriesOf normalize-none
+entries-normalize (p ∷ ps) = ap entriesOf (normalize-more p ps) ∙ λ i. canonical-entry (p .name) (decode (p .stored)) i ∷ entries-normalize ps i
 
 -- ---- lookup
 
@@ -90,8 +90,8 @@ valueFor (found value) = some value
 valueFor missing = none
 
 pub value-entries : (name : List ℕ) (ps : List Pair) → valueOf name (entriesOf ps) ≡ valueFor (lookup name ps)
-unfolding valueOf lookup
-value-entries name [] = refl
+unfolding valueOf
+value-entries name [] = ap valueFor (sym (lookup-none name))
 value-entries name (p ∷ ps) =
     split (sameBytes name (p .name))
     (λ t. value-first name (entryOf p) (entriesOf ps) t ∙ ap valueFor (sym (lookup-first name p ps t)))
@@ -104,18 +104,18 @@ count-entries (p ∷ ps) = omega (arith, count-entries ps)
 -- ---- sizes and bytes
 
 pub total-entries : (ps : List Pair) → total (entriesOf ps) ≡ length (pairsBytes ps)
-unfolding total pairsBytes
-total-entries [] = refl
+unfolding total
+total-entries [] = sym (ap length pairs-none)
 total-entries (p ∷ ps) = omega (arith, total-entries ps, length-pairs p ps, length-pair p)
 
 pub canonical-bytes : (ps : List Pair) → canonicalBytes (entriesOf ps) ≡ pairsBytes (normalizePairs ps)
-unfolding canonicalBytes pairsBytes normalizePairs
-canonical-bytes [] = refl
+unfolding canonicalBytes
+canonical-bytes [] = sym (ap pairsBytes normalize-none ∙ pairs-none)
 canonical-bytes (p ∷ ps) =
     let q : Pair = canonicalPair (p .name) (decode (p .stored)) in
     ap (λ (l : List ℕ). p .name ++ 0x3D ∷ (encode (decode (p .stored)) ++ 0x00 ∷ l)) (canonical-bytes ps ∙ sym (append-nil (pairsBytes (normalizePairs ps))))
-    ∙ sym (pair-front q (normalizePairs ps) []) ∙ append-nil (pairsBytes (q ∷ normalizePairs ps))
+    ∙ sym (pair-front q (normalizePairs ps) []) ∙ append-nil (pairsBytes (q ∷ normalizePairs ps)) ∙ ap pairsBytes (sym (normalize-more p ps))
 
-pub canonical-area : (n : ℕ) (ps : List Pair) → canonicalArea n (entriesOf ps) ≡ areaOf n (normalizePairs ps)
-unfolding canonicalArea areaOf
-canonical-area n ps = ap (λ (l : List ℕ). l ++ 0x00 ∷ replicate (n - (length l + 1)) 0x00) (canonical-bytes ps)
+pub canonical-area : (n : ℕ) (ps : List Pair) → canonicalArea n (entriesOf ps) ≡ areaBytes n (normalizePairs ps)
+unfolding canonicalArea
+canonical-area n ps = ap (λ (l : List ℕ). l ++ 0x00 ∷ replicate (n - (length l + 1)) 0x00) (canonical-bytes ps) ∙ sym (area-is n (normalizePairs ps))

@@ -1,50 +1,42 @@
 -- The demands applied to the example image E: each premise is discharged.
 use Prim.Native.Nat.{ℕ}
 use mathlib.Core.Path.{_≡_, refl}
-use mathlib.Core.Bool.{Bool, true, false}
+use mathlib.Core.Bool.{Bool, true, false, _&&_}
 use mathlib.Core.List.{List, [], _∷_}
 use lib.Dec.{ltb}
 use borrow.Author.Tests.{ltb-true}
 use Rattle.lists.specs.Bytes.{AllBytes, sameBytes}
-use Rattle.lists.proofs.Tests.{clash}
+use Rattle.lists.proofs.Tests.{and-true}
 use Rattle.header.specs.Checksum.{sumFrom}
 use Rattle.header.specs.Header.{headerAt, nameAt, validityOf, validityAt}
 use Rattle.header.specs.Rules.{blocksAt}
 use Rattle.partitions.specs.declared.Partition.{Partition}
 use Rattle.partitions.specs.Walk.{allowedLength, partitionOf, pastOf, stepAt, walkFrom, walk}
 use Rattle.partitions.specs.Find.{padded, matches, firstMatch, findBy, findOf}
-use Rattle.partitions.specs.Cover.{FirstNamed, areaAt}
+use Rattle.partitions.specs.Cover.{areaAt}
 use Rattle.partitions.specs.Examples.{E}
-use Rattle.partitions.proofs.FoundLaws.{find-first}
-use Rattle.names.specs.Name.{nameByte}
+use Rattle.names.specs.Name.{nameByte, nameCheckFrom, nameCheck}
 use Rattle.values.specs.Value.{decode, decodeFrom, run, runByte}
-use Rattle.pairs.specs.Scan.{scanName, scanValue, standAt}
+use Rattle.pairs.specs.Scan.{storedName, scanName, scanValue, standAt}
 use Rattle.pairs.specs.Area.{pairOf, pairBytes, stands, parseFrom, parse}
 use Rattle.pairs.specs.Rules.{Entry, WellFormed}
 use Rattle.variables.specs.Calls.{Call}
 use Rattle.pairs.proofs.EntryLaws.{parse-exactly}
-use Rattle.nvram.specs.Common.{common}
+use Rattle.nvram.specs.Common.{HasCommon, commonOf}
+use Rattle.nvram.proofs.CommonLaws.{common-exactly}
 use Rattle.demands.specs.Requests.{Request}
 use Rattle.demands.specs.Demands.{RequestBytes, CallsBytes, Demand1, Demand2, Demand3}
 use Rattle.demands.proofs.DemandsLaws.{demands}
 
 -- numbers below 256, tested
-abbrev pick : Bool → Bool → Bool
-pick true t = t
-pick false t = false
-
 abbrev below : List ℕ → Bool
 below [] = true
-below (b ∷ bs) = pick (ltb b 256) (below bs)
-
-pick-both : (s t : Bool) → pick s t ≡ true → (s ≡ true) × (t ≡ true)
-pick-both true t e = (refl, e)
-pick-both false t e = clash (cc)
+below (b ∷ bs) = ltb b 256 && below bs
 
 tested : (l : List ℕ) → below l ≡ true → AllBytes l
 tested [] e = tt
 tested (b ∷ bs) e =
-    let p = pick-both (ltb b 256) (below bs) e in
+    let p = and-true (ltb b 256) (below bs) e in
     (ltb-true b 256 (p .0), tested bs (p .1))
 
 example-bytes : AllBytes E
@@ -58,12 +50,12 @@ first = record { offset = 0; blocks = record { 0 = 2 }; signature = 0x70 }
 abbrev held : List Entry
 held = record { name = 0x61 ∷ []; value = 0x31 ∷ []; size = 4 } ∷ []
 
-example-named : FirstNamed E 0x70 common first
-unfolding findOf findBy firstMatch matches padded walk walkFrom stepAt allowedLength partitionOf pastOf validityAt validityOf headerAt nameAt sumFrom sameBytes
-example-named = find-first E 0x70 common example-bytes first .0 refl
+example-common : HasCommon E first
+unfolding commonOf findOf findBy firstMatch matches padded walk walkFrom stepAt allowedLength partitionOf pastOf validityAt validityOf headerAt nameAt sumFrom sameBytes
+example-common = common-exactly E example-bytes first .0 refl
 
 example-formed : WellFormed held (areaAt E 0)
-unfolding areaAt blocksAt parse parseFrom standAt scanName scanValue stands nameByte decode decodeFrom run runByte pairBytes
+unfolding areaAt blocksAt parse parseFrom standAt storedName scanName scanValue nameCheck nameCheckFrom stands nameByte decode decodeFrom run runByte pairBytes
 example-formed = parse-exactly (areaAt E 0) held (tested (areaAt E 0) refl) .0 (pairOf (0x61 ∷ []) (0x31 ∷ []) ∷ [], refl, refl)
 
 -- DEMAND 1 of every request on E
@@ -76,4 +68,4 @@ example-2 = demands .demand-2 E example-bytes
 
 -- DEMAND 3 of every list of calls on E
 pub example-3 : (calls : List Call) → CallsBytes calls → Demand3 E 0 held calls
-example-3 calls b = demands .demand-3 E first held calls example-bytes b example-named example-formed
+example-3 calls b = demands .demand-3 E first held calls example-bytes b example-common example-formed

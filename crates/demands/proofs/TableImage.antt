@@ -2,13 +2,14 @@
 use Prim.Native.Nat.{ℕ}
 use mathlib.Core.Path.{_≡_, refl, sym, ap, subst, _∙_}
 use mathlib.Core.Logic.{_⊎_, inl, inr}
-use mathlib.Core.Bool.{true, false}
 use mathlib.Core.List.{List, []}
 use Rattle.lists.specs.Bytes.{AllBytes}
-use Rattle.lists.proofs.Tests.{split, clash}
+use Rattle.lists.proofs.Tests.{clash}
+use Rattle.errors.specs.declared.HeaderFault.{HeaderFault}
+use Rattle.errors.specs.declared.HeaderFault.the-variants.{ZeroLength, PastEnd, Checksum, ZeroChecksum}
 use Rattle.errors.specs.declared.Error.{Error}
 use Rattle.errors.specs.declared.Error.the-variants.{NoPartition, BadName}
-use Rattle.errors.specs.Errors.{codeOf, offsetOf}
+use Rattle.errors.specs.Errors.{headerCode, codeOf, offsetOf}
 use Rattle.header.specs.Rules.{Breaks}
 use Rattle.partitions.specs.declared.Partition.{Partition}
 use Rattle.partitions.specs.declared.Checked.{Checked}
@@ -16,81 +17,61 @@ use Rattle.partitions.specs.declared.Checked.the-variants.{Accepted as Accepts,
 use Rattle.partitions.specs.declared.Found.{Found}
 use Rattle.partitions.specs.declared.Found.the-variants.{At, Refused}
 use Rattle.partitions.specs.Find.{checkOf, indexOf, findOf, areaOf}
-use Rattle.partitions.specs.Cover.{Rejected, Counted, FirstNamed, NotNamed, Indexed, NotIndexed, areaAt}
+use Rattle.partitions.specs.Cover.{Rejected, PartitionCount, FirstNamed, NotNamed, Indexed, NotIndexed, areaAt}
 use Rattle.partitions.proofs.CoverLaws.{check-accepts, check-refuses}
 use Rattle.partitions.proofs.FoundLaws.{find-first, find-refuses, index-at, index-refuses}
-use Rattle.names.specs.Name.{goodName}
+use Rattle.partitions.proofs.AreaLaws.{found-among, area-refused}
+use Rattle.partitions.proofs.FrameLaws.{among-area}
+use Rattle.names.specs.declared.NameCheck.the-variants.{Good, Wrong}
+use Rattle.names.specs.Name.{nameCheck}
 use Rattle.names.specs.Rules.{NameRule}
-use Rattle.names.proofs.NameLaws.{good-name-exactly}
-use Rattle.variables.specs.Calls.{Call, set, remove, normalize, read, count, lent, wellNamed}
-use Rattle.nvram.specs.Calls.{refusal, Result, callImage}
-use Rattle.nvram.specs.Common.{common}
-use Rattle.demands.specs.Requests.{Request, variable, check, partition, find, area, lends, refuses, answers, shows, hands}
-use Rattle.demands.specs.Table.{Takes, by-set, by-remove, by-read, WellNamed, AtHeader, Absent, no-common, no-index, no-name, no-area, Answers}
+use Rattle.names.proofs.NameLaws.{check-good-exactly, check-wrong, split-check}
+use Rattle.variables.specs.Calls.{Call, named, normalize, count, callCheck}
+use Rattle.variables.proofs.CallLaws.{check-named, check-normalize, check-count}
+use Rattle.nvram.specs.Common.{NoCommon, commonOf}
+use Rattle.nvram.specs.Calls.{Result, refusedCall, callImage}
+use Rattle.nvram.proofs.CommonLaws.{common-refuses}
+use Rattle.nvram.proofs.CallLaws.{image-misnamed, image-refused}
+use Rattle.demands.specs.Requests.{Request, variable, check, partition, find, area, Seen, refuses, tells, shows, hands}
+use Rattle.demands.specs.Table.{Takes, by-name, WellNamed, AtHeader, Absent, no-common, no-index, no-name, no-area, Answers}
 use Rattle.demands.specs.Library.{seenCall, seenCheck, seenFind, seenArea, seen}
-use Rattle.demands.proofs.AreaInImage.{found-area}
-use Rattle.nvram.proofs.CallLaws.{image-refused}
 
 -- ---- 11
 
-pub lent-same : (call : Call) → lent call ≡ lends (variable call)
-lent-same (set name value) = refl
-lent-same (remove name) = refl
-lent-same normalize = refl
-lent-same (read name buffer) = refl
-lent-same count = refl
+pub well-named : (call : Call) → WellNamed (variable call) → callCheck call ≡ Good
+well-named (named name action) w = check-named name action ∙ check-good-exactly name .1 (w name by-name)
+well-named normalize w = check-normalize
+well-named count w = check-count
 
-pub well-named : (call : Call) → WellNamed (variable call) → wellNamed call ≡ true
-unfolding wellNamed
-well-named (set name value) w = good-name-exactly name .1 (w name by-set)
-well-named (remove name) w = good-name-exactly name .1 (w name by-remove)
-well-named normalize w = refl
-well-named (read name buffer) w = good-name-exactly name .1 (w name by-read)
-well-named count w = refl
+taken-name : {call : Call} {name : List ℕ} → Takes (variable call) name → callCheck call ≡ nameCheck name
+taken-name (by-name {name = name} {action = action}) = check-named name action
 
-taken-name : {call : Call} {name : List ℕ} → Takes (variable call) name → wellNamed call ≡ goodName name
-unfolding wellNamed
-taken-name by-set = refl
-taken-name by-remove = refl
-taken-name by-read = refl
+pub named-well : (call : Call) → callCheck call ≡ Good → WellNamed (variable call)
+named-well call t name k = check-good-exactly name .0 (sym (taken-name k) ∙ t)
 
-pub named-well : (call : Call) → wellNamed call ≡ true → WellNamed (variable call)
-named-well call t name k = good-name-exactly name .0 (sym (taken-name k) ∙ t)
-
-ill-named : {call : Call} {name : List ℕ} → Takes (variable call) name → ¬ (NameRule name) → wellNamed call ≡ false
-ill-named {call} {name} k q = split (wellNamed call) (λ t. absurd (q (named-well call t name k))) (λ t. t)
-
-bad-name : (name : List ℕ) → goodName name ≡ false → ¬ (NameRule name)
-bad-name name e r = clash (cc (good-name-exactly name .1 r))
-
-pub eleven-row : (call : Call) (I : List ℕ) → wellNamed call ≡ false → Answers I (variable call) (refuses (variable call) I 11 0)
-unfolding wellNamed
-eleven-row (set name value) I e = Answers.eleven by-set (bad-name name e)
-eleven-row (remove name) I e = Answers.eleven by-remove (bad-name name e)
-eleven-row normalize I e = clash (cc)
-eleven-row (read name buffer) I e = Answers.eleven by-read (bad-name name e)
-eleven-row count I e = clash (cc)
+pub eleven-row : (call : Call) (I : List ℕ) (at : ℕ) → callCheck call ≡ Wrong at → Answers I (variable call) (refuses (variable call) I 11 0)
+eleven-row (named name action) I at e = Answers.eleven by-name (check-wrong (sym (check-named name action) ∙ e))
+eleven-row normalize I at e = clash (cc (check-normalize))
+eleven-row count I at e = clash (cc (check-count))
 
 -- a refusal by the image or the caller's name, as it is seen
-refusal-seen : (call : Call) (I : List ℕ) (e : Error) (r : Result) → r ≡ record { told = refusal e (lent call); image = I }
-    → seenCall r ≡ refuses (variable call) I (codeOf e) (offsetOf e)
-refusal-seen call I e r q =
-    ap seenCall q ∙ ap (λ (b : List ℕ). seenCall (record { told = refusal e b; image = I })) (lent-same call)
+refusal-seen : (call : Call) (I : List ℕ) (e : Error) (r : Result) → r ≡ refusedCall e call I → seenCall r ≡ refuses (variable call) I (codeOf e) (offsetOf e)
+refusal-seen call I e r q = ap seenCall q
 
-pub ill-named-seen : (call : Call) (I : List ℕ) → wellNamed call ≡ false → seen (variable call) I ≡ refuses (variable call) I 11 0
-unfolding callImage
-ill-named-seen call I t = refusal-seen call I BadName (callImage call I) (rw t)
+pub misnamed-seen : (call : Call) (I : List ℕ) (at : ℕ) → callCheck call ≡ Wrong at → seen (variable call) I ≡ refuses (variable call) I 11 0
+misnamed-seen call I at t = refusal-seen call I BadName (callImage call I) (image-misnamed call I at t)
 
 pub eleven-seen : {name : List ℕ} (r : Request) (I : List ℕ) → Takes r name → ¬ (NameRule name) → seen r I ≡ refuses r I 11 0
-eleven-seen (variable call) I k q = ill-named-seen call I (ill-named k q)
+eleven-seen {name} (variable call) I k q =
+    split-check (callCheck call) (λ t. absurd (q (named-well call t name k))) (λ at t. misnamed-seen call I at t)
 
 -- ---- 1 to 6
 
-header-row : {r : Request} {I : List ℕ} {a : ℕ} {e : Error} → AtHeader r I a → Breaks I a e → Answers I r (refuses r I (codeOf e) (offsetOf e))
-header-row h (Breaks.two z) = Answers.two h z
-header-row h (Breaks.three z p) = Answers.three h z p
-header-row h (Breaks.four z p c) = Answers.four h z p c
-header-row h (Breaks.five z p c q) = Answers.five h z p c q
+header-row : {r : Request} {I : List ℕ} {a : ℕ} → AtHeader r I a → (f : HeaderFault) → Breaks I a f → Answers I r (refuses r I (headerCode f) a)
+header-row h ZeroLength x = Answers.two h x
+header-row h PastEnd x = Answers.three h x
+header-row h Checksum x = Answers.four h x
+header-row h ZeroChecksum x = Answers.five h x
 
 -- the image refuses a request
 abbrev pub Missed : List ℕ → Request → Error → Type 0
@@ -98,10 +79,10 @@ Missed I r e = Rejected I e ⊎ ((e ≡ NoPartition) × Absent I r)
 
 pub missed-row : (r : Request) (I : List ℕ) (e : Error) → WellNamed r → Missed I r e → Answers I r (refuses r I (codeOf e) (offsetOf e))
 missed-row r I e w (inl (Rejected.one q)) = Answers.one w q
-missed-row r I e w (inl (Rejected.header l c i x)) = header-row (record { named = w; long = l; before = _; cover = c; within = i }) x
+missed-row r I e w (inl (Rejected.header l c i x)) = header-row (record { named = w; long = l; before = _; cover = c; within = i }) _ x
 missed-row r I e w (inr (q, b)) = rw q (Answers.six w b)
 
-absent-common : {I : List ℕ} {call : Call} → Absent I (variable call) → NotNamed I 0x70 common
+absent-common : {I : List ℕ} {call : Call} → Absent I (variable call) → NoCommon I
 absent-common (no-common n) = n
 
 absent-index : {I : List ℕ} {n : ℕ} → Absent I (partition n) → NotIndexed I n
@@ -118,17 +99,30 @@ moving f (inl a) = inl a
 moving f (inr b) = inr (f b)
 
 module _ (I : List ℕ) (bytes : AllBytes I) where
-  pub refused-call : (call : Call) (e : Error) → wellNamed call ≡ true → findOf I 0x70 common ≡ Refused e
+  pub refused-call : (call : Call) (e : Error) → callCheck call ≡ Good → commonOf I ≡ Refused e
       → seen (variable call) I ≡ refuses (variable call) I (codeOf e) (offsetOf e)
   refused-call call e t f = refusal-seen call I e (callImage call I) (image-refused call I t e f)
 
-  pub missed-common : (call : Call) (e : Error) → findOf I 0x70 common ≡ Refused e → Missed I (variable call) e
-  missed-common call e f = moving (λ b. (b .0, no-common (b .1))) (find-refuses I 0x70 common bytes e .0 f)
+  pub missed-common : (call : Call) (e : Error) → commonOf I ≡ Refused e → Missed I (variable call) e
+  missed-common call e f = moving (λ b. (b .0, no-common (b .1))) (common-refuses I bytes e .0 f)
+
+  refused-area : (signature : ℕ) (name : List ℕ) (e : Error) → seenArea (Refused e) I ≡ refuses (area signature name) I (codeOf e) (offsetOf e)
+  refused-area signature name e =
+      λ i. record {
+        code = codeOf e;
+        offset = offsetOf e;
+        amount = 0;
+        header = 0;
+        blocks = 0;
+        signature = 0;
+        part = area-refused I e i;
+        buffer = [];
+        image = I;
+      }
 
   pub missed-seen : (r : Request) (e : Error) → WellNamed r → Missed I r e → seen r I ≡ refuses r I (codeOf e) (offsetOf e)
-  unfolding areaOf
   missed-seen (variable call) e w m =
-      refused-call call e (well-named call w) (find-refuses I 0x70 common bytes e .1 (moving (λ b. (b .0, absent-common (b .1))) m))
+      refused-call call e (well-named call w) (common-refuses I bytes e .1 (moving (λ b. (b .0, absent-common (b .1))) m))
   missed-seen check e w (inl r) = ap (λ (c : Checked). seenCheck c I) (check-refuses I bytes e .1 r)
   missed-seen check e w (inr b) = elim (b .1) [ ]
   missed-seen (partition n) e w m =
@@ -137,13 +131,14 @@ module _ (I : List ℕ) (bytes : AllBytes I) where
       ap (λ (f : Found). seenFind f I) (find-refuses I signature name bytes e .1 (moving (λ b. (b .0, absent-name (b .1))) m))
   missed-seen (area signature name) e w m =
       ap (λ (f : Found). seenArea f I) (find-refuses I signature name bytes e .1 (moving (λ b. (b .0, absent-area (b .1))) m))
+      ∙ refused-area signature name e
 
-  pub header-seen : {a : ℕ} {e : Error} (r : Request) → AtHeader r I a → Breaks I a e → seen r I ≡ refuses r I (codeOf e) (offsetOf e)
+  pub header-seen : {a : ℕ} {f : HeaderFault} (r : Request) → AtHeader r I a → Breaks I a f → seen r I ≡ refuses r I (headerCode f) a
   header-seen r h x = missed-seen r _ (h .named) (inl (Rejected.header (h .long) (h .cover) (h .within) x))
 
   -- ---- the image check, a partition, and its area
 
-  pub check-seen : (n : ℕ) → Counted I n → seen check I ≡ answers n [] I
+  pub check-seen : (n : ℕ) → PartitionCount I n → seen check I ≡ tells n [] I
   check-seen n c = ap (λ (c : Checked). seenCheck c I) (check-accepts I bytes n .1 c)
 
   pub partition-seen : (n : ℕ) (p : Partition) → Indexed I n p → seen (partition n) I ≡ shows p I
@@ -156,7 +151,7 @@ module _ (I : List ℕ) (bytes : AllBytes I) where
     pub area-seen : seen (area signature name) I ≡ hands (areaAt I (p .offset)) I
     area-seen =
         let e = find-first I signature name bytes p .1 f in
-        ap (λ (f : Found). seenArea f I) e ∙ ap (λ (x : List ℕ). hands x I) (found-area I signature name p e)
+        ap (λ (f : Found). seenArea f I) e ∙ ap (λ (x : List ℕ). hands x I) (among-area I p (found-among I signature name p e))
 
   pub check-row : Answers I check (seen check I)
   check-row = go (checkOf I) refl
@@ -182,12 +177,12 @@ module _ (I : List ℕ) (bytes : AllBytes I) where
             missed-row (find signature name) I x (λ n k. elim k [ ]) (moving (λ b. (b .0, no-name (b .1))) (find-refuses I signature name bytes x .0 e))
 
     pub area-row : Answers I (area signature name) (seen (area signature name) I)
-    unfolding areaOf
     area-row = go (findOf I signature name) refl
       where
         go : (f : Found) → findOf I signature name ≡ f → Answers I (area signature name) (seenArea f I)
         go (At p) e =
-            subst (λ (x : List ℕ). Answers I (area signature name) (hands x I)) (sym (found-area I signature name p e))
+            subst (λ (x : List ℕ). Answers I (area signature name) (hands x I)) (sym (among-area I p (found-among I signature name p e)))
             (Answers.done-area (find-first I signature name bytes p .0 e))
         go (Refused x) e =
-            missed-row (area signature name) I x (λ n k. elim k [ ]) (moving (λ b. (b .0, no-area (b .1))) (find-refuses I signature name bytes x .0 e))
+            subst (λ (s : Seen). Answers I (area signature name) s) (sym (refused-area signature name x))
+            (missed-row (area signature name) I x (λ n k. elim k [ ]) (moving (λ b. (b .0, no-area (b .1))) (find-refuses I signature name bytes x .0 e)))

@@ -23,15 +23,15 @@ refused-so r I code offset = record { image = refl; buffer = refl; told = (refl,
 untouched : {I : List ℕ} {r : Request} {s : Seen} → Answers I r s → s .code ≢ 0 → Untouched I r s
 untouched (Answers.eleven k q) n = refused-so _ _ _ _
 untouched (Answers.one w q) n = refused-so _ _ _ _
-untouched (Answers.two h z) n = refused-so _ _ _ _
-untouched (Answers.three h z p) n = refused-so _ _ _ _
-untouched (Answers.four h z p c) n = refused-so _ _ _ _
-untouched (Answers.five h z p c q) n = refused-so _ _ _ _
+untouched (Answers.two h x) n = refused-so _ _ _ _
+untouched (Answers.three h x) n = refused-so _ _ _ _
+untouched (Answers.four h x) n = refused-so _ _ _ _
+untouched (Answers.five h x) n = refused-so _ _ _ _
 untouched (Answers.six w x) n = refused-so _ _ _ _
-untouched (Answers.seven h c) n = refused-so _ _ _ _
-untouched (Answers.eight rest h x l w z) n = refused-so _ _ _ _
-untouched (Answers.nine rest h r v w) n = refused-so _ _ _ _
-untouched (Answers.ten rest h r v i) n = refused-so _ _ _ _
+untouched (Answers.seven h x) n = refused-so _ _ _ _
+untouched (Answers.eight h x) n = refused-so _ _ _ _
+untouched (Answers.nine h x) n = refused-so _ _ _ _
+untouched (Answers.ten h x) n = refused-so _ _ _ _
 untouched (Answers.twelve-read h q) n = refused-so _ _ _ _
 untouched (Answers.twelve-remove h q) n = refused-so _ _ _ _
 untouched (Answers.thirteen h z l) n = refused-so _ _ _ _

@@ -9,56 +9,48 @@ use lib.ListN.{length}
 use Rattle.lists.specs.Bytes.{AllBytes}
 use Rattle.lists.specs.Pasted.{pasted}
 use Rattle.lists.proofs.Tests.{split, clash}
-use Rattle.errors.specs.declared.Error.{Error}
-use Rattle.errors.specs.declared.Error.the-variants.{NoVariable, NoRoom, ShortBuffer}
-use Rattle.errors.specs.Errors.{codeOf, offsetOf}
+use Rattle.errors.specs.declared.AreaFault.{AreaFault}
+use Rattle.errors.specs.declared.AreaFault.the-variants.{AreaEnd, StoredName, Escape, Repeated}
+use Rattle.errors.specs.declared.Error.the-variants.{BadArea, NoVariable, NoRoom, ShortBuffer}
+use Rattle.errors.specs.Errors.{areaCode}
 use Rattle.partitions.specs.declared.Found.{Found}
 use Rattle.partitions.specs.declared.Found.the-variants.{At, Refused}
-use Rattle.partitions.specs.Find.{findOf}
 use Rattle.partitions.specs.Cover.{areaAt}
-use Rattle.partitions.proofs.FoundLaws.{find-first}
+use Rattle.names.specs.declared.NameCheck.the-variants.{Good}
+use Rattle.names.proofs.NameLaws.{split-check}
 use Rattle.pairs.specs.Area.{Pair, pairsBytes, stands, Parse, parsed, faulty, parse}
-use Rattle.variables.specs.Edits.{areaOf, setPair, removePair, normalizePairs, Lookup, found, missing, lookup}
 use Rattle.pairs.specs.Rules.{Entry, Pairs, Once, FaultAt}
-use Rattle.variables.specs.Calls.{Call, set, remove, normalize, read, count, wellNamed, callPairs, callBy}
-use Rattle.pairs.proofs.ParseLaws.{area-read, read-room, bytes-read}
-use Rattle.variables.proofs.EditLaws.{length-area, lookup-missing-exactly, remove-room, normalize-room}
 use Rattle.pairs.proofs.StandsLaws.{names}
 use Rattle.pairs.proofs.EntryLaws.{entriesOf, parse-exactly}
+use Rattle.pairs.proofs.FaultLaws.{faulty-exactly}
+use Rattle.variables.specs.Edits.{areaBytes, setPair, removePair, normalizePairs, Lookup, found, missing, lookup}
+use Rattle.variables.specs.Calls.{setTo, removal, readInto, Call, named, set, remove, normalize, read, count, callCheck, callPairs, callBy}
+use Rattle.variables.proofs.EditLaws.{length-area, lookup-missing-exactly}
+use Rattle.variables.proofs.KeptLaws.{remove-length, normalize-length}
+use Rattle.variables.proofs.CallLaws.{set-short, set-done, remove-missing, remove-found, read-missing, read-short, read-done, normalize-done, count-done}
 use Rattle.variables.proofs.LookupLaws.{found-exactly, missing-exactly, set-size-exactly}
 use Rattle.variables.proofs.LeavesLaws.{set-leaves-exactly, remove-leaves-exactly, normalize-leaves-exactly}
-use Rattle.pairs.proofs.FaultLaws.{faulty-exactly}
-use Rattle.nvram.specs.Calls.{moved}
-use Rattle.nvram.specs.Common.{common}
-use Rattle.demands.specs.Requests.{Request, variable, check, partition, find, area, Seen, refuses, answers}
-use Rattle.demands.specs.Table.{WellNamed, by-set, by-remove, AtPair, Answers}
+use Rattle.nvram.specs.Common.{commonOf}
+use Rattle.nvram.proofs.CommonLaws.{common-exactly}
+use Rattle.demands.specs.Requests.{Request, variable, check, partition, find, area, Seen, refuses, tells}
+use Rattle.demands.specs.Table.{WellNamed, by-name, AtPair, Answers}
 use Rattle.demands.specs.Library.{seen}
 use Rattle.demands.specs.Demands.{CallBytes, RequestBytes}
 use Rattle.demands.proofs.ModelLaws.{count-entries}
-use Rattle.demands.proofs.TableImage.{named-well, eleven-row, ill-named-seen, refused-call, missed-row, missed-common, check-row, partition-row, find-row, area-row}
+use Rattle.demands.proofs.TableImage.{named-well, eleven-row, misnamed-seen, refused-call, missed-row, missed-common, check-row, partition-row, find-row, area-row}
 use Rattle.demands.proofs.TablePlaces.{pasted-holding}
-use Rattle.demands.proofs.TableSeen.{CommonAt, seenOutcome, common-bytes, edit-becomes, call-seen, refuse-seen, answer-seen, set-short, set-done, remove-missing, remove-found, read-missing, read-short, read-done, normalize-done, count-done}
+use Rattle.demands.proofs.TableSeen.{CommonAt, seenOutcome, common-bytes, edit-becomes, call-seen, refuse-seen, answer-seen}
 
 same-row : {r : Request} {I : List ℕ} {s t : Seen} → s ≡ t → Answers I r t → Answers I r s
 same-row {r} {I} e x = subst (λ (s : Seen). Answers I r s) (sym e) x
 
--- the length of each area that an edit leaves
-remove-length : (name s : List ℕ) (ps : List Pair) → parse s ≡ parsed ps → length (areaOf (length s) (removePair name ps)) ≡ length s
-remove-length name s ps e = length-area (length s) (removePair name ps) (omega (arith, read-room (area-read s ps e), remove-room name ps))
-
-normalize-length : (s : List ℕ) (ps : List Pair) → AllBytes s → parse s ≡ parsed ps → length (areaOf (length s) (normalizePairs ps)) ≡ length s
-normalize-length s ps b e =
-    let r = area-read s ps e in
-    length-area (length s) (normalizePairs ps) (omega (arith, read-room r, normalize-room (r .good) (bytes-read b r)))
-
 -- 7 to 10
-fault-row : {call : Call} {I rest : List ℕ} {a : ℕ} {es : List Entry} {e : Error} → AtPair call I a es rest → FaultAt (length (areaAt I a)) es rest e
-    → Answers I (variable call) (refuses (variable call) I (codeOf (moved (a + 16) e)) (offsetOf (moved (a + 16) e)))
-unfolding moved
-fault-row h (FaultAt.seven c) = Answers.seven h c
-fault-row h (FaultAt.eight rest x l w z) = Answers.eight rest h x l w z
-fault-row h (FaultAt.nine rest r v w) = Answers.nine rest h r v w
-fault-row h (FaultAt.ten rest r v i) = Answers.ten rest h r v i
+fault-row : {call : Call} {I rest : List ℕ} {a k : ℕ} {es : List Entry} → AtPair call I a es rest → (f : AreaFault)
+    → FaultAt (length (areaAt I a)) es rest f k → Answers I (variable call) (refuses (variable call) I (areaCode f) (a + 16 + k))
+fault-row h AreaEnd x = Answers.seven h x
+fault-row h StoredName x = Answers.eight h x
+fault-row h Escape x = Answers.nine h x
+fault-row h Repeated x = Answers.ten h x
 
 module _ (I : List ℕ) (bytes : AllBytes I) where
   module _ (a : ℕ) (w : CommonAt I a) where
@@ -67,18 +59,18 @@ module _ (I : List ℕ) (bytes : AllBytes I) where
     common-pair n ps o = record {
       named = n;
       partition = w .partition;
-      first = find-first I 0x70 common bytes (w .partition) .0 (w .found);
+      holds = common-exactly I bytes (w .partition) .0 (w .found);
       stands = w .stands;
       pairs = ps;
       once = o;
     }
 
-    faulty-row : (call : Call) (e : Error) → WellNamed (variable call) → parse (areaAt I a) ≡ faulty e
+    faulty-row : (call : Call) (f : AreaFault) (k : ℕ) → WellNamed (variable call) → parse (areaAt I a) ≡ faulty f k
         → Answers I (variable call) (seenOutcome I a (callBy (parse (areaAt I a)) call (areaAt I a)))
-    faulty-row call e n q =
-        let f = faulty-exactly (areaAt I a) e (common-bytes I a w bytes) .0 q in
-        same-row (ap (λ (x : Parse). seenOutcome I a (callBy x call (areaAt I a))) q ∙ refuse-seen I a w call e)
-        (fault-row (common-pair {call = call} n (f .pairs) (f .once)) (f .fault))
+    faulty-row call f k n q =
+        let x = faulty-exactly (areaAt I a) f k (common-bytes I a w bytes) .0 q in
+        same-row (ap (λ (y : Parse). seenOutcome I a (callBy y call (areaAt I a))) q ∙ refuse-seen I a w call (BadArea f k))
+        (fault-row (common-pair {call = call} n (x .pairs) (x .once)) f (x .fault))
 
     module _ (ps : List Pair) (q : parse (areaAt I a) ≡ parsed ps) where
       common-end : (call : Call) → WellNamed (variable call) → (padding : List ℕ) × AtPair call I a (entriesOf ps) (0x00 ∷ padding)
@@ -88,16 +80,15 @@ module _ (I : List ℕ) (bytes : AllBytes I) where
 
       set-row : (name value : List ℕ) → AllBytes value → WellNamed (variable (set name value))
           → Answers I (variable (set name value)) (seenOutcome I a (callPairs (set name value) ps (areaAt I a)))
-      unfolding moved
       set-row name value b n = go (decLe (length (pairsBytes (setPair name value ps)) + 1) (length (areaAt I a)))
         where
           go : Dec (length (pairsBytes (setPair name value ps)) + 1 ≤ length (areaAt I a))
               → Answers I (variable (set name value)) (seenOutcome I a (callPairs (set name value) ps (areaAt I a)))
           go (yes l) =
-              let new : List ℕ = areaOf (length (areaAt I a)) (setPair name value ps) in
+              let new : List ℕ = areaBytes (length (areaAt I a)) (setPair name value ps) in
               same-row (ap (seenOutcome I a) (set-done name value ps (areaAt I a) l))
               (Answers.done-set (common-end (set name value) n .1) (set-size-exactly name value ps _ b .1 refl) l
-              (set-leaves-exactly name value (areaAt I a) new ps (n name by-set) b (common-bytes I a w bytes) q .1 (l, refl))
+              (set-leaves-exactly name value (areaAt I a) new ps (n name by-name) b (common-bytes I a w bytes) q .1 (l, refl))
               (edit-becomes I a w new (length-area (length (areaAt I a)) (setPair name value ps) l)))
           go (no l) =
               let k : length (areaAt I a) < length (pairsBytes (setPair name value ps)) + 1 = omega arith in
@@ -109,30 +100,28 @@ module _ (I : List ℕ) (bytes : AllBytes I) where
 
       remove-row : (name : List ℕ) → WellNamed (variable (remove name))
           → Answers I (variable (remove name)) (seenOutcome I a (callPairs (remove name) ps (areaAt I a)))
-      unfolding moved
       remove-row name n = go (lookup name ps) refl
         where
           go : (f : Lookup) → lookup name ps ≡ f → Answers I (variable (remove name)) (seenOutcome I a (callPairs (remove name) ps (areaAt I a)))
           go (found value) e =
-              let new : List ℕ = areaOf (length (areaAt I a)) (removePair name ps) in
+              let new : List ℕ = areaBytes (length (areaAt I a)) (removePair name ps) in
               same-row (ap (seenOutcome I a) (remove-found name ps (areaAt I a) e))
               (Answers.done-remove (common-end (remove name) n .1) (found-exactly name value ps .0 e)
-              (remove-leaves-exactly name (areaAt I a) new ps (n name by-remove) (common-bytes I a w bytes) q .1 (stands-found name value e, refl))
-              (edit-becomes I a w new (remove-length name (areaAt I a) ps q)))
+              (remove-leaves-exactly name (areaAt I a) new ps (n name by-name) (common-bytes I a w bytes) q .1 (stands-found name value e, refl))
+              (edit-becomes I a w new (remove-length (areaAt I a) ps q name)))
           go missing e =
               same-row (ap (seenOutcome I a) (remove-missing name ps (areaAt I a) e) ∙ refuse-seen I a w (remove name) NoVariable)
               (Answers.twelve-remove (common-end (remove name) n .1) (missing-exactly name ps .0 e))
 
       normalize-row : WellNamed (variable normalize) → Answers I (variable normalize) (seenOutcome I a (callPairs normalize ps (areaAt I a)))
       normalize-row n =
-          let new : List ℕ = areaOf (length (areaAt I a)) (normalizePairs ps) in
+          let new : List ℕ = areaBytes (length (areaAt I a)) (normalizePairs ps) in
           same-row (ap (seenOutcome I a) (normalize-done ps (areaAt I a)))
           (Answers.done-normalize (common-end normalize n .1) (normalize-leaves-exactly (areaAt I a) new ps (common-bytes I a w bytes) q .1 refl)
-          (edit-becomes I a w new (normalize-length (areaAt I a) ps (common-bytes I a w bytes) q)))
+          (edit-becomes I a w new (normalize-length (areaAt I a) ps q)))
 
       read-row : (name buffer : List ℕ) → WellNamed (variable (read name buffer))
           → Answers I (variable (read name buffer)) (seenOutcome I a (callPairs (read name buffer) ps (areaAt I a)))
-      unfolding moved
       read-row name buffer n = go (lookup name ps) refl
         where
           fits : (value : List ℕ) → lookup name ps ≡ found value → Dec (length value ≤ length buffer)
@@ -155,33 +144,33 @@ module _ (I : List ℕ) (bytes : AllBytes I) where
       count-row : WellNamed (variable count) → Answers I (variable count) (seenOutcome I a (callPairs count ps (areaAt I a)))
       count-row n =
           same-row
-          (ap (seenOutcome I a) (count-done ps (areaAt I a)) ∙ answer-seen I a w (length ps) [] ∙ ap (λ (k : ℕ). answers k [] I) (sym (count-entries ps)))
+          (ap (seenOutcome I a) (count-done ps (areaAt I a)) ∙ answer-seen I a w (length ps) [] ∙ ap (λ (k : ℕ). tells k [] I) (sym (count-entries ps)))
           (Answers.done-count (common-end count n .1))
 
       pairs-row : (call : Call) → CallBytes call → WellNamed (variable call)
           → Answers I (variable call) (seenOutcome I a (callPairs call ps (areaAt I a)))
-      pairs-row (set name value) b n = set-row name value b n
-      pairs-row (remove name) b n = remove-row name n
+      pairs-row (named name (setTo value)) b n = set-row name value b n
+      pairs-row (named name removal) b n = remove-row name n
+      pairs-row (named name (readInto buffer)) b n = read-row name buffer n
       pairs-row normalize b n = normalize-row n
-      pairs-row (read name buffer) b n = read-row name buffer n
       pairs-row count b n = count-row n
 
     -- a call on the area that was found
-    common-row : (call : Call) → CallBytes call → wellNamed call ≡ true → Answers I (variable call) (seen (variable call) I)
+    common-row : (call : Call) → CallBytes call → callCheck call ≡ Good → Answers I (variable call) (seen (variable call) I)
     common-row call b t = same-row (call-seen I a w call t) (go (parse (areaAt I a)) refl)
       where
         go : (x : Parse) → parse (areaAt I a) ≡ x → Answers I (variable call) (seenOutcome I a (callBy (parse (areaAt I a)) call (areaAt I a)))
-        go (faulty e) q = faulty-row call e (named-well call t) q
+        go (faulty f k) q = faulty-row call f k (named-well call t) q
         go (parsed ps) q = same-row (ap (λ (x : Parse). seenOutcome I a (callBy x call (areaAt I a))) q) (pairs-row ps q call b (named-well call t))
 
   -- WHAT IS SEEN IS A ROW THAT HOLDS
   pub seen-row : (r : Request) → RequestBytes r → Answers I r (seen r I)
   seen-row (variable call) b =
-      split (wellNamed call)
-      (λ t. go t (findOf I 0x70 common) refl)
-      (λ t. same-row (ill-named-seen call I t) (eleven-row call I t))
+      split-check (callCheck call)
+      (λ t. go t (commonOf I) refl)
+      (λ at t. same-row (misnamed-seen call I at t) (eleven-row call I at t))
     where
-      go : wellNamed call ≡ true → (f : Found) → findOf I 0x70 common ≡ f → Answers I (variable call) (seen (variable call) I)
+      go : callCheck call ≡ Good → (f : Found) → commonOf I ≡ f → Answers I (variable call) (seen (variable call) I)
       go t (At p) e = common-row (p .offset) (record { partition = p; found = e; stands = refl }) call b t
       go t (Refused x) e =
           same-row (refused-call I bytes call x t e)

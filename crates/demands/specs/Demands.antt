@@ -1,20 +1,19 @@
 -- The three demands as statements; proofs/ proves them for every image, request and list of calls.
-use Prim.Native.Nat.{ℕ, _+_, _*_, _≤_}
+use Prim.Native.Nat.{ℕ, _≤_}
 use mathlib.Core.Path.{_≡_}
 use mathlib.Core.List.{List, [], _∷_}
 use mathlib.Core.Logic.{_≢_, _⊎_, _↔_}
-use lib.ListN.{length, take, drop}
+use lib.ListN.{length, take}
 use Rattle.lists.specs.Bytes.{AllBytes}
-use Rattle.header.specs.Rules.{blocksAt}
 use Rattle.partitions.specs.declared.Partition.{Partition}
 use Rattle.partitions.specs.declared.Checked.the-variants.{Accepted}
 use Rattle.partitions.specs.Find.{checkOf}
-use Rattle.partitions.specs.Cover.{Counted, FirstNamed, areaAt}
+use Rattle.partitions.specs.Cover.{PartitionCount, areaAt, OutsideKept}
 use Rattle.values.specs.Rules.{Spells, Canonical}
 use Rattle.pairs.specs.Rules.{Entry, WellFormed}
 use Rattle.variables.specs.Rules.{Holds}
-use Rattle.variables.specs.Calls.{Call, set, remove, normalize, read, count}
-use Rattle.nvram.specs.Common.{common}
+use Rattle.variables.specs.Calls.{Action, setTo, removal, readInto, Call, named, set, normalize, read, count}
+use Rattle.nvram.specs.Common.{HasCommon}
 use Rattle.nvram.specs.Calls.{callImage}
 use Rattle.demands.specs.Requests.{Request, variable, check, partition, find, area, Seen, lends}
 use Rattle.demands.specs.Table.{Answers}
@@ -22,11 +21,14 @@ use Rattle.demands.specs.Model.{run, canonicalArea}
 use Rattle.demands.specs.Library.{seen, runImage}
 
 -- what a caller gives is bytes
+abbrev pub ActionBytes : Action → Type 0
+ActionBytes (setTo value) = AllBytes value
+ActionBytes removal = Unit {0}
+ActionBytes (readInto buffer) = Unit {0}
+
 abbrev pub CallBytes : Call → Type 0
-CallBytes (set name value) = AllBytes value
-CallBytes (remove name) = Unit {0}
+CallBytes (named name action) = ActionBytes action
 CallBytes normalize = Unit {0}
-CallBytes (read name buffer) = Unit {0}
 CallBytes count = Unit {0}
 
 abbrev pub RequestBytes : Request → Type 0
@@ -53,9 +55,9 @@ pub record Demand1 (r : Request) (I : List ℕ) : Type 0 where
 -- DEMAND 2, of an image
 pub record Demand2 (I : List ℕ) : Type 0 where
   -- accepted exactly when sound partitions cover it
-  pub accepted : (n : ℕ) → (checkOf I ≡ Accepted n) ↔ Counted I n
+  pub accepted : (n : ℕ) → (checkOf I ≡ Accepted n) ↔ PartitionCount I n
   -- a variable reads as the zero and 0xFF runs of its pair say
-  pub reads : (p : Partition) (es : List Entry) (name value buffer : List ℕ) → FirstNamed I 0x70 common p → WellFormed es (areaAt I (p .offset))
+  pub reads : (p : Partition) (es : List Entry) (name value buffer : List ℕ) → HasCommon I p → WellFormed es (areaAt I (p .offset))
       → Holds name es value → length value ≤ length buffer → (callImage (read name buffer) I .told .code ≡ 0)
       × (callImage (read name buffer) I .told .amount ≡ length value) × (take (length value) (callImage (read name buffer) I .told .buffer) ≡ value)
   -- what we write reads back the same
@@ -71,16 +73,14 @@ abbrev pub Normalizes : List Call → Type 0
 Normalizes [] = ⊥
 Normalizes (call ∷ calls) = (call ≡ normalize) ⊎ Normalizes calls
 
--- DEMAND 3: a taken image whose first `common` stands at a, with an area of the entries es, and a list of calls
+-- DEMAND 3: a taken image whose `common` stands at a, with an area of the entries es, and a list of calls
 pub record Demand3 (I : List ℕ) (a : ℕ) (es : List Entry) (calls : List Call) : Type 0 where
   -- every call has answered as the model does, which sees only the calls
-  pub answers : runImage calls I .answers ≡ run calls (record { room = length (areaAt I a); entries = es }) .answers
+  pub told : runImage calls I .told ≡ run calls (record { room = length (areaAt I a); entries = es }) .told
   -- afterwards the area is well formed and holds exactly the model's entries, in its order
   pub entries : WellFormed (run calls (record { room = length (areaAt I a); entries = es }) .model .entries) (areaAt (runImage calls I .image) a)
   -- no byte outside the area has changed
-  pub long : length (runImage calls I .image) ≡ length I
-  pub before : take (a + 16) (runImage calls I .image) ≡ take (a + 16) I
-  pub after : drop (a + blocksAt I a * 16) (runImage calls I .image) ≡ drop (a + blocksAt I a * 16) I
+  pub outside : OutsideKept I a (runImage calls I .image)
   -- canonical from the start, or normalized on the way: the area is the canonical form of the final entries
   pub canonical : (areaAt I a ≡ canonicalArea (length (areaAt I a)) es) ⊎ Normalizes calls
       → areaAt (runImage calls I .image) a
@@ -91,7 +91,7 @@ pub record Demands : Type 0 where
   pub demand-1 : (r : Request) (I : List ℕ) → AllBytes I → RequestBytes r → Demand1 r I
   pub demand-2 : (I : List ℕ) → AllBytes I → Demand2 I
   pub demand-3 : (I : List ℕ) (p : Partition) (es : List Entry) (calls : List Call) → AllBytes I → CallsBytes calls
-      → FirstNamed I 0x70 common p → WellFormed es (areaAt I (p .offset)) → Demand3 I (p .offset) es calls
+      → HasCommon I p → WellFormed es (areaAt I (p .offset)) → Demand3 I (p .offset) es calls
   -- a read or count changes no byte of any image
   pub read-keeps : (name buffer I : List ℕ) → callImage (read name buffer) I .image ≡ I
   pub count-keeps : (I : List ℕ) → callImage count I .image ≡ I

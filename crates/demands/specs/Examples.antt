@@ -8,20 +8,22 @@ use Rattle.lists.specs.Pasted.{pasted}
 use Rattle.header.specs.Checksum.{sumFrom, sumcheck}
 use Rattle.header.specs.Header.{headerAt, nameAt, validityOf, validityAt}
 use Rattle.partitions.specs.declared.Checked.the-variants.{Accepted, Refused}
-use Rattle.errors.specs.declared.Error.the-variants.{ImageLength, ZeroLength, PastEnd}
+use Rattle.errors.specs.declared.HeaderFault.the-variants.{ZeroLength, PastEnd}
+use Rattle.errors.specs.declared.Error.the-variants.{ImageLength, BadHeader}
 use Rattle.partitions.specs.Walk.{allowedLength, partitionOf, pastOf, stepAt, walkFrom, walk}
 use Rattle.partitions.specs.Find.{checkedBy, checkOf, padded, matches, firstMatch, findBy, findOf, areaOf}
-use Rattle.partitions.specs.Examples.{E, common, freeSpace}
-use Rattle.names.specs.Name.{nameByte, nameCheckFrom, nameCheck, goodName}
+use Rattle.partitions.specs.Examples.{E, commonCovered, freeCovered}
+use Rattle.names.specs.Name.{nameByte, nameCheckFrom, nameCheck}
 use Rattle.values.specs.Value.{runByte, run, decodeFrom, decode, mark, fullEscapes, restEscape, runBytes, encodeFrom, encode}
-use Rattle.pairs.specs.Scan.{scanName, scanValue, standAt}
+use Rattle.pairs.specs.Scan.{storedName, scanName, scanValue, standAt}
 use Rattle.pairs.specs.Area.{pairBytes, pairsBytes, stands, parseFrom, parse}
-use Rattle.variables.specs.Edits.{setPair, normalizePairs, lookup}
-use Rattle.variables.specs.Calls.{set, read, normalize, count, wellNamed, setIn, callPairs, callArea}
-use Rattle.nvram.specs.Calls.{Answer, moved, callImage}
+use Rattle.variables.specs.Edits.{areaBytes, setPair, normalizePairs, lookup}
+use Rattle.variables.specs.Calls.{set, read, normalize, count, callCheck, setIn, callPairs, callArea}
+use Rattle.nvram.specs.Common.{commonOf}
+use Rattle.nvram.specs.Calls.{Told, callImage}
 
 -- an answer with no buffer
-abbrev told : ℕ → ℕ → ℕ → Answer
+abbrev told : ℕ → ℕ → ℕ → Told
 told code offset amount = record { code = code; offset = offset; amount = amount; buffer = [] }
 
 -- E with another area of 16 bytes
@@ -37,17 +39,17 @@ abbrev nine : List ℕ
 nine = holding (0x61 ∷ 0x3D ∷ 0xFF ∷ 0x01 ∷ 0xFF ∷ 0x01 ∷ 0x00 ∷ 0x00 ∷ replicate 8 0xAA)
 
 pub record Examples : Type 0 where
-  pub one-2 : sumcheck (common 2) ≡ 0xFD
-  pub one-3 : sumcheck (common 3) ≡ 0xFE
-  pub one-4 : sumcheck (common 4) ≡ 0xFF
-  pub one-5 : sumcheck (common 5) ≡ 0x01
-  pub two : sumcheck freeSpace ≡ 0x1A
+  pub one-2 : sumcheck (commonCovered 2) ≡ 0xFD
+  pub one-3 : sumcheck (commonCovered 3) ≡ 0xFE
+  pub one-4 : sumcheck (commonCovered 4) ≡ 0xFF
+  pub one-5 : sumcheck (commonCovered 5) ≡ 0x01
+  pub two : sumcheck freeCovered ≡ 0x1A
   pub three : checkOf E ≡ Accepted 2
   pub four-none : checkOf [] ≡ Refused ImageLength
   pub four-forty : checkOf (take 40 E) ≡ Refused ImageLength
   pub five-first : checkOf (take 32 E) ≡ Accepted 1
-  pub five-past : checkOf (0x70 ∷ 0xFD ∷ 0x00 ∷ 0x03 ∷ drop 4 (take 32 E)) ≡ Refused (PastEnd 0)
-  pub five-zero : checkOf (0x70 ∷ 0xFD ∷ 0x00 ∷ 0x00 ∷ drop 4 (take 32 E)) ≡ Refused (ZeroLength 0)
+  pub five-past : checkOf (0x70 ∷ 0xFD ∷ 0x00 ∷ 0x03 ∷ drop 4 (take 32 E)) ≡ Refused (BadHeader PastEnd 0)
+  pub five-zero : checkOf (0x70 ∷ 0xFD ∷ 0x00 ∷ 0x00 ∷ drop 4 (take 32 E)) ≡ Refused (BadHeader ZeroLength 0)
   pub six-set : callImage (set (0x62 ∷ []) (0x00 ∷ 0x00 ∷ 0xFF ∷ [])) E ≡ record { told = told 0 0 0; image = six }
   pub seven-fits : callImage (set (0x63 ∷ []) (0x31 ∷ [])) six .told ≡ told 0 0 0
   pub seven-room : callImage (set (0x63 ∷ []) (0x31 ∷ 0x32 ∷ [])) six ≡ record { told = told 13 0 0; image = six }
@@ -65,7 +67,7 @@ pub record Examples : Type 0 where
   pub eleven : callImage count (holding (0x61 ∷ 0x3D ∷ replicate 13 0x78 ++ 0x00 ∷ [])) .told ≡ told 7 32 0
 
 pub examples : Examples
-unfolding callImage moved callArea callPairs setIn wellNamed goodName nameCheck nameCheckFrom nameByte parse parseFrom standAt scanName scanValue stands sameBytes Rattle.variables.specs.Edits.areaOf setPair normalizePairs lookup pairsBytes pairBytes encode encodeFrom runBytes fullEscapes restEscape mark decode decodeFrom run runByte pasted checkOf checkedBy walk walkFrom stepAt allowedLength partitionOf pastOf validityAt validityOf headerAt nameAt sumFrom padded matches firstMatch findBy findOf areaOf
+unfolding callImage commonOf callArea callPairs setIn callCheck nameCheck nameCheckFrom nameByte parse parseFrom standAt storedName scanName scanValue stands sameBytes areaBytes setPair normalizePairs lookup pairsBytes pairBytes encode encodeFrom runBytes fullEscapes restEscape mark decode decodeFrom run runByte pasted checkOf checkedBy walk walkFrom stepAt allowedLength partitionOf pastOf validityAt validityOf headerAt nameAt sumFrom padded matches firstMatch findBy findOf areaOf
 examples = record {
   one-2 = refl;
   one-3 = refl;

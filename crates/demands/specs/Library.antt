@@ -6,7 +6,7 @@ use Rattle.partitions.specs.declared.Found.{Found}
 use Rattle.partitions.specs.Find.{checkOf, indexOf, findOf, areaOf}
 use Rattle.partitions.specs.Answers.{checkAnswer, findAnswer}
 use Rattle.variables.specs.Calls.{Call}
-use Rattle.nvram.specs.Calls.{Answer, Result, callImage}
+use Rattle.nvram.specs.Calls.{Told, Result, callImage}
 use Rattle.demands.specs.Requests.{Request, variable, check, partition, find, area, Seen}
 
 -- what is seen of a call on variables
@@ -79,12 +79,12 @@ seen (area signature name) I = seenArea (findOf I signature name) I
 
 -- a list of calls: each gets the image as the last one left it
 pub record Results : Type 0 where
-  pub answers : List Answer
+  pub told : List Told
   pub image : List ℕ
 
 unfoldable pub runImage : List Call → List ℕ → Results
-runImage [] image = record { answers = []; image = image }
+runImage [] image = record { told = []; image = image }
 runImage (call ∷ calls) image =
     let r : Result = callImage call image in
     let rs : Results = runImage calls (r .image) in
-    record { answers = r .told ∷ rs .answers; image = rs .image }
+    record { told = r .told ∷ rs .told; image = rs .image }

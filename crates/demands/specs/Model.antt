@@ -1,14 +1,14 @@
 -- The reference model (document 01: the plain list): an ordered list of entries that sees only the calls.
 use Prim.Native.Nat.{ℕ, _+_, _-_}
-use mathlib.Core.Bool.{Bool, true, false, _&&_}
+use mathlib.Core.Bool.{Bool, true, false, _&&_, cond}
 use mathlib.Core.List.{List, [], _∷_, _++_}
 use lib.ListN.{length, drop, replicate}
 use lib.Dec.{ltb, eqb}
-use Rattle.names.specs.Name.{goodName}
+use Rattle.names.specs.Name.{nameCheck, onCheck}
 use Rattle.values.specs.Value.{encode}
 use Rattle.pairs.specs.Rules.{Entry}
-use Rattle.variables.specs.Calls.{Call, set, remove, normalize, read, count}
-use Rattle.nvram.specs.Calls.{Answer}
+use Rattle.variables.specs.Calls.{Action, setTo, removal, readInto, lentBy, Call, named, normalize, count}
+use Rattle.nvram.specs.Calls.{Told}
 
 -- the area's length, which stays, and the entries in order
 pub record Model : Type 0 where
@@ -56,61 +56,65 @@ unfoldable pub valueOf : List ℕ → List Entry → Value
 valueOf name [] = none
 valueOf name (e ∷ es) = elim (same name (e .name)) [ true ↦ some (e .value) | false ↦ valueOf name es ]
 
--- an answer, and the model afterwards
+-- what the caller is told, and the model afterwards
 pub record Stepped : Type 0 where
-  pub told : Answer
+  pub told : Told
   pub model : Model
 
--- code, length or count, and buffer; the offset is the table's, 0 for each code that a well-formed area meets
-abbrev pub says : ℕ → ℕ → List ℕ → Answer
-says code amount buffer = record { code = code; offset = 0; amount = amount; buffer = buffer }
+-- done, with a length or count, and the buffer
+abbrev pub says : ℕ → List ℕ → Told
+says amount buffer = record { code = 0; offset = 0; amount = amount; buffer = buffer }
+
+-- refused by a code at an offset (the table's), and the buffer as it was
+abbrev pub denies : ℕ → ℕ → List ℕ → Told
+denies code offset buffer = record { code = code; offset = offset; amount = 0; buffer = buffer }
 
 -- a refusal leaves the model
-abbrev pub keeps : Answer → Model → Stepped
-keeps a m = record { told = a; model = m }
+abbrev pub keeps : Told → Model → Stepped
+keeps t m = record { told = t; model = m }
 
 abbrev pub becomes : List Entry → Model → Stepped
-becomes es m = record { told = says 0 0 []; model = record { room = m .room; entries = es } }
-
-abbrev pub pickStepped : Bool → Stepped → Stepped → Stepped
-pickStepped true a b = a
-pickStepped false a b = b
+becomes es m = record { told = says 0 []; model = record { room = m .room; entries = es } }
 
 -- 12 if no entry has the name
 abbrev pub removeStep : Value → List ℕ → Model → Stepped
 removeStep (some value) name m = becomes (dropEntry name (m .entries)) m
-removeStep none name m = keeps (says 12 0 []) m
+removeStep none name m = keeps (denies 12 0 []) m
 
 -- 12 as above; 14 if the buffer is shorter than the value; else the value at its start with the bytes after it kept
 abbrev pub readStep : Value → List ℕ → Model → Stepped
 readStep (some value) buffer m =
-    pickStepped (ltb (length buffer) (length value)) (keeps (says 14 0 buffer) m)
-    (keeps (says 0 (length value) (value ++ drop (length value) buffer)) m)
-readStep none buffer m = keeps (says 12 0 buffer) m
+    cond (ltb (length buffer) (length value)) (keeps (denies 14 0 buffer) m)
+    (keeps (says (length value) (value ++ drop (length value) buffer)) m)
+readStep none buffer m = keeps (denies 12 0 buffer) m
 
--- one call
+-- 13 if the sum of all sizes, plus 1, exceeds the area's length
+abbrev pub setStep : List Entry → Model → Stepped
+setStep es m = cond (ltb (m .room) (total es + 1)) (keeps (denies 13 0 []) m) (becomes es m)
+
+-- what is done with an entry, by a name that keeps the rule
+abbrev pub actionStep : Action → List ℕ → Model → Stepped
+actionStep (setTo value) name m = setStep (setEntry name value (m .entries)) m
+actionStep removal name m = removeStep (valueOf name (m .entries)) name m
+actionStep (readInto buffer) name m = readStep (valueOf name (m .entries)) buffer m
+
+-- one call; 11 if the name breaks the name rule
 unfoldable pub step : Call → Model → Stepped
-step (set name value) m =
-    pickStepped (goodName name)
-    (pickStepped (ltb (m .room) (total (setEntry name value (m .entries)) + 1)) (keeps (says 13 0 []) m)
-    (becomes (setEntry name value (m .entries)) m))
-    (keeps (says 11 0 []) m)
-step (remove name) m = pickStepped (goodName name) (removeStep (valueOf name (m .entries)) name m) (keeps (says 11 0 []) m)
+step (named name action) m = onCheck (nameCheck name) (actionStep action name m) (λ at. keeps (denies 11 0 (lentBy action)) m)
 step normalize m = becomes (newSizes (m .entries)) m
-step (read name buffer) m = pickStepped (goodName name) (readStep (valueOf name (m .entries)) buffer m) (keeps (says 11 0 buffer) m)
-step count m = keeps (says 0 (length (m .entries)) []) m
+step count m = keeps (says (length (m .entries)) []) m
 
 -- a list of calls
 pub record Run : Type 0 where
-  pub answers : List Answer
+  pub told : List Told
   pub model : Model
 
 unfoldable pub run : List Call → Model → Run
-run [] m = record { answers = []; model = m }
+run [] m = record { told = []; model = m }
 run (call ∷ calls) m =
     let s : Stepped = step call m in
     let r : Run = run calls (s .model) in
-    record { answers = s .told ∷ r .answers; model = r .model }
+    record { told = s .told ∷ r .told; model = r .model }
 
 -- the canonical form of entries as an area of a length: each pair with its value in canonical form, then 0x00 to the end
 unfoldable pub canonicalBytes : List Entry → List ℕ

@@ -2,7 +2,7 @@
 use Prim.Native.Nat.{ℕ}
 use mathlib.Core.List.{List, []}
 use Rattle.partitions.specs.declared.Partition.{Partition}
-use Rattle.variables.specs.Calls.{Call, set, remove, normalize, read, count}
+use Rattle.variables.specs.Calls.{Call, lent}
 
 -- what a caller may ask of an image
 pub data Request : Type 0 where
@@ -27,11 +27,7 @@ pub record Seen : Type 0 where
 
 -- the buffer that a request lends
 abbrev pub lends : Request → List ℕ
-lends (variable (set name value)) = []
-lends (variable (remove name)) = []
-lends (variable normalize) = []
-lends (variable (read name buffer)) = buffer
-lends (variable count) = []
+lends (variable call) = lent call
 lends check = []
 lends (partition n) = []
 lends (find signature name) = []
@@ -43,8 +39,8 @@ refuses r I code offset =
     record { code = code; offset = offset; amount = 0; header = 0; blocks = 0; signature = 0; part = []; buffer = lends r; image = I }
 
 -- done, with a length or count
-abbrev pub answers : ℕ → List ℕ → List ℕ → Seen
-answers amount buffer image =
+abbrev pub tells : ℕ → List ℕ → List ℕ → Seen
+tells amount buffer image =
     record { code = 0; offset = 0; amount = amount; header = 0; blocks = 0; signature = 0; part = []; buffer = buffer; image = image }
 
 -- done, with a partition

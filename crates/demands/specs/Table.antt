@@ -1,28 +1,24 @@
 -- The table of codes (document 01: numbers) as one relation: a row for each, its premises in the order of checks, in relations on bytes.
 -- Nothing here computes an answer, and nothing that computes an answer is used here.
-use Prim.Native.Nat.{ℕ, _+_, _*_, _≤_, _<_}
+use Prim.Native.Nat.{ℕ, _+_, _≤_, _<_}
 use mathlib.Core.Path.{_≡_}
-use mathlib.Core.List.{List, [], _∷_, _++_}
-use mathlib.Core.Logic.{_≢_, _⊎_}
+use mathlib.Core.List.{List, [], _∷_}
 use lib.ListN.{length, drop, take}
-use Rattle.lists.specs.Bytes.{Every}
-use Rattle.header.specs.Header.{byteAt}
-use Rattle.header.specs.Rules.{blocksAt, checksumAt}
+use Rattle.errors.specs.declared.HeaderFault.the-variants.{ZeroLength, PastEnd, Checksum, ZeroChecksum}
+use Rattle.errors.specs.declared.AreaFault.the-variants.{AreaEnd, StoredName, Escape, Repeated}
+use Rattle.header.specs.Rules.{Breaks}
 use Rattle.partitions.specs.declared.Partition.{Partition}
-use Rattle.partitions.specs.Cover.{LengthRule, Cover, Counted, FirstNamed, NotNamed, Indexed, NotIndexed, areaAt}
-use Rattle.names.specs.Rules.{NameByte, NameRule}
-use Rattle.values.specs.Rules.{Spells}
-use Rattle.pairs.specs.Rules.{Entry, In, sizes, Pairs, Once, BadByte, CutOff}
+use Rattle.partitions.specs.Cover.{LengthRule, Cover, PartitionCount, FirstNamed, NotNamed, Indexed, NotIndexed, areaAt, OutsideKept}
+use Rattle.names.specs.Rules.{NameRule}
+use Rattle.pairs.specs.Rules.{Entry, In, Pairs, Once, FaultAt}
 use Rattle.variables.specs.Rules.{Holds, SetSize, SetLeaves, RemoveLeaves, NormalizeLeaves}
-use Rattle.variables.specs.Calls.{Call, set, remove, normalize, read, count}
-use Rattle.nvram.specs.Common.{common}
-use Rattle.demands.specs.Requests.{Request, variable, check, partition, find, area, Seen, refuses, answers, shows, hands}
+use Rattle.variables.specs.Calls.{Action, Call, named, set, remove, normalize, read, count}
+use Rattle.nvram.specs.Common.{HasCommon, NoCommon}
+use Rattle.demands.specs.Requests.{Request, variable, check, partition, find, area, Seen, refuses, tells, shows, hands}
 
 -- the requests that take a variable's name
 pub data Takes : Request → List ℕ → Type 0 where
-  by-set : {name value : List ℕ} → Takes (variable (set name value)) name
-  by-remove : {name : List ℕ} → Takes (variable (remove name)) name
-  by-read : {name buffer : List ℕ} → Takes (variable (read name buffer)) name
+  by-name : {name : List ℕ} {action : Action} → Takes (variable (named name action)) name
 
 -- not 11
 abbrev pub WellNamed : Request → Type 0
@@ -38,26 +34,24 @@ pub record AtHeader (r : Request) (I : List ℕ) (a : ℕ) : Type 0 where
 
 -- the image is accepted, and has no partition that the request asks for
 pub data Absent (I : List ℕ) : Request → Type 0 where
-  no-common : {call : Call} → NotNamed I 0x70 common → Absent I (variable call)
+  no-common : {call : Call} → NoCommon I → Absent I (variable call)
   no-index : {n : ℕ} → NotIndexed I n → Absent I (partition n)
   no-name : {signature : ℕ} {name : List ℕ} → NotNamed I signature name → Absent I (find signature name)
   no-area : {signature : ℕ} {name : List ℕ} → NotNamed I signature name → Absent I (area signature name)
 
--- not 11, not 1 to 6: the first `common` stands at a; its area begins with good pairs, no name twice, and then comes rest
+-- not 11, not 1 to 6: `common` stands at a; its area begins with good pairs, no name twice, and then comes rest
 pub record AtPair (call : Call) (I : List ℕ) (a : ℕ) (es : List Entry) (rest : List ℕ) : Type 0 where
   pub named : WellNamed (variable call)
   pub partition : Partition
-  pub first : FirstNamed I 0x70 common partition
+  pub holds : HasCommon I partition
   pub stands : partition .offset ≡ a
   pub pairs : Pairs es (areaAt I a) rest
   pub once : Once es
 
 -- the image afterwards differs in the area alone
 pub record AreaBecomes (I : List ℕ) (a : ℕ) (area J : List ℕ) : Type 0 where
-  pub before : take (a + 16) J ≡ take (a + 16) I
   pub inside : areaAt J a ≡ area
-  pub after : drop (a + blocksAt I a * 16) J ≡ drop (a + blocksAt I a * 16) I
-  pub long : length J ≡ length I
+  pub outside : OutsideKept I a J
 
 -- a value at the start of a buffer, and the bytes after it kept
 pub record Holding (value buffer buffer′ : List ℕ) : Type 0 where
@@ -71,32 +65,27 @@ pub data Answers (I : List ℕ) : Request → Seen → Type 0 where
   -- image length outside the rule
   one : {r : Request} → WellNamed r → ¬ (LengthRule (length I)) → Answers I r (refuses r I 1 0)
   -- length field is zero
-  two : {r : Request} {a : ℕ} → AtHeader r I a → blocksAt I a ≡ 0 → Answers I r (refuses r I 2 a)
+  two : {r : Request} {a : ℕ} → AtHeader r I a → Breaks I a ZeroLength → Answers I r (refuses r I 2 a)
   -- partition runs past the image's end
-  three : {r : Request} {a : ℕ} → AtHeader r I a → blocksAt I a ≢ 0 → length I < a + blocksAt I a * 16 → Answers I r (refuses r I 3 a)
+  three : {r : Request} {a : ℕ} → AtHeader r I a → Breaks I a PastEnd → Answers I r (refuses r I 3 a)
   -- stored and computed checksum differ
-  four : {r : Request} {a : ℕ} → AtHeader r I a → blocksAt I a ≢ 0 → a + blocksAt I a * 16 ≤ length I
-      → byteAt I a 1 ≢ checksumAt I a → Answers I r (refuses r I 4 a)
+  four : {r : Request} {a : ℕ} → AtHeader r I a → Breaks I a Checksum → Answers I r (refuses r I 4 a)
   -- they agree and are zero
-  five : {r : Request} {a : ℕ} → AtHeader r I a → blocksAt I a ≢ 0 → a + blocksAt I a * 16 ≤ length I
-      → byteAt I a 1 ≡ checksumAt I a → byteAt I a 1 ≡ 0 → Answers I r (refuses r I 5 a)
+  five : {r : Request} {a : ℕ} → AtHeader r I a → Breaks I a ZeroChecksum → Answers I r (refuses r I 5 a)
   -- partition not found
   six : {r : Request} → WellNamed r → Absent I r → Answers I r (refuses r I 6 0)
-  -- area ends inside a pair, or where a pair or the end should begin
-  seven : {call : Call} {a : ℕ} {es : List Entry} {rest : List ℕ} → AtPair call I a es rest → CutOff rest
-      → Answers I (variable call) (refuses (variable call) I 7 (a + 16 + length (areaAt I a)))
-  -- stored name breaks the name rule (a 0x00 where a pair would begin is the end)
-  eight : {call : Call} {a b : ℕ} {es : List Entry} {begun : List ℕ} (rest : List ℕ) → AtPair call I a es (begun ++ b ∷ rest)
-      → Every NameByte begun → length begun ≤ 31 → BadByte (length begun) b → (begun ≡ [] → b ≢ 0x00)
-      → Answers I (variable call) (refuses (variable call) I 8 (a + 16 + (sizes es + length begun)))
-  -- 0xFF followed by 0x00 or 0x80
-  nine : {call : Call} {a c : ℕ} {es : List Entry} {name stored value : List ℕ} (rest : List ℕ)
-      → AtPair call I a es (name ++ 0x3D ∷ (stored ++ 0xFF ∷ c ∷ rest)) → NameRule name → Spells stored value → (c ≡ 0x00) ⊎ (c ≡ 0x80)
-      → Answers I (variable call) (refuses (variable call) I 9 (a + 16 + (sizes es + (length name + 1 + (length stored + 1)))))
-  -- name stands a second time
-  ten : {call : Call} {a : ℕ} {es : List Entry} {name stored value : List ℕ} (rest : List ℕ)
-      → AtPair call I a es (name ++ 0x3D ∷ (stored ++ 0x00 ∷ rest)) → NameRule name → Spells stored value → In name es
-      → Answers I (variable call) (refuses (variable call) I 10 (a + 16 + sizes es))
+  -- area ends inside a pair, or where a pair or the end should begin; the offset is just past the area
+  seven : {call : Call} {a k : ℕ} {es : List Entry} {rest : List ℕ} → AtPair call I a es rest → FaultAt (length (areaAt I a)) es rest AreaEnd k
+      → Answers I (variable call) (refuses (variable call) I 7 (a + 16 + k))
+  -- stored name breaks the name rule; the offset is that of the byte
+  eight : {call : Call} {a k : ℕ} {es : List Entry} {rest : List ℕ} → AtPair call I a es rest → FaultAt (length (areaAt I a)) es rest StoredName k
+      → Answers I (variable call) (refuses (variable call) I 8 (a + 16 + k))
+  -- 0xFF followed by 0x00 or 0x80; the offset is that of the second byte
+  nine : {call : Call} {a k : ℕ} {es : List Entry} {rest : List ℕ} → AtPair call I a es rest → FaultAt (length (areaAt I a)) es rest Escape k
+      → Answers I (variable call) (refuses (variable call) I 9 (a + 16 + k))
+  -- name stands a second time; the offset is that of the later pair
+  ten : {call : Call} {a k : ℕ} {es : List Entry} {rest : List ℕ} → AtPair call I a es rest → FaultAt (length (areaAt I a)) es rest Repeated k
+      → Answers I (variable call) (refuses (variable call) I 10 (a + 16 + k))
   -- variable not found
   twelve-read : {a : ℕ} {es : List Entry} {name buffer padding : List ℕ} → AtPair (read name buffer) I a es (0x00 ∷ padding)
       → ¬ (In name es) → Answers I (variable (read name buffer)) (refuses (variable (read name buffer)) I 12 0)
@@ -113,23 +102,23 @@ pub data Answers (I : List ℕ) : Request → Seen → Type 0 where
   -- done: a set
   done-set : {a n : ℕ} {es : List Entry} {name value padding area′ J : List ℕ} → AtPair (set name value) I a es (0x00 ∷ padding)
       → SetSize name value es n → n + 1 ≤ length (areaAt I a) → SetLeaves name value (areaAt I a) area′ → AreaBecomes I a area′ J
-      → Answers I (variable (set name value)) (answers 0 [] J)
+      → Answers I (variable (set name value)) (tells 0 [] J)
   -- done: a removal
   done-remove : {a : ℕ} {es : List Entry} {name value padding area′ J : List ℕ} → AtPair (remove name) I a es (0x00 ∷ padding)
       → Holds name es value → RemoveLeaves name (areaAt I a) area′ → AreaBecomes I a area′ J
-      → Answers I (variable (remove name)) (answers 0 [] J)
+      → Answers I (variable (remove name)) (tells 0 [] J)
   -- done: normalizing
   done-normalize : {a : ℕ} {es : List Entry} {padding area′ J : List ℕ} → AtPair normalize I a es (0x00 ∷ padding)
-      → NormalizeLeaves (areaAt I a) area′ → AreaBecomes I a area′ J → Answers I (variable normalize) (answers 0 [] J)
+      → NormalizeLeaves (areaAt I a) area′ → AreaBecomes I a area′ J → Answers I (variable normalize) (tells 0 [] J)
   -- done: a read
   done-read : {a : ℕ} {es : List Entry} {name buffer value padding buffer′ : List ℕ} → AtPair (read name buffer) I a es (0x00 ∷ padding)
       → Holds name es value → length value ≤ length buffer → Holding value buffer buffer′
-      → Answers I (variable (read name buffer)) (answers (length value) buffer′ I)
+      → Answers I (variable (read name buffer)) (tells (length value) buffer′ I)
   -- done: a count of variables
   done-count : {a : ℕ} {es : List Entry} {padding : List ℕ} → AtPair count I a es (0x00 ∷ padding)
-      → Answers I (variable count) (answers (length es) [] I)
+      → Answers I (variable count) (tells (length es) [] I)
   -- done: the image check, a partition by index, by name, and its area
-  done-check : {n : ℕ} → Counted I n → Answers I check (answers n [] I)
+  done-check : {n : ℕ} → PartitionCount I n → Answers I check (tells n [] I)
   done-partition : {n : ℕ} {p : Partition} → Indexed I n p → Answers I (partition n) (shows p I)
   done-find : {signature : ℕ} {name : List ℕ} {p : Partition} → FirstNamed I signature name p → Answers I (find signature name) (shows p I)
   done-area : {signature : ℕ} {name : List ℕ} {p : Partition} → FirstNamed I signature name p

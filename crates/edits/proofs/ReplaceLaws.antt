@@ -1,5 +1,6 @@
 -- What the edits by offsets leave is what the edits of the pairs say.
 use Prim.Native.Nat.{ℕ, _+_, _-_, _≤_, _<_}
+use mathlib.Core.Bool.{cond}
 use mathlib.Core.Path.{_≡_, sym, ap, _∙_}
 use mathlib.Core.List.{List, [], _∷_, _++_, append-assoc, append-nil}
 use native.Mathlib.Omega.{arith}
@@ -14,9 +15,9 @@ use Rattle.pairs.specs.declared.Scanned.the-variants as Scanned
 use Rattle.pairs.specs.declared.Place.{Place}
 use Rattle.pairs.specs.declared.Place.the-variants.{At, None}
 use Rattle.pairs.specs.Area.{Pair, pairOf, pairBytes, pairsBytes, Parse, parse}
-use Rattle.variables.specs.Edits.{areaOf, canonicalPair, setPair, removePair, Lookup, lookup, found, missing}
+use Rattle.variables.specs.Edits.{areaBytes, canonicalPair, setPair, removePair, Lookup, lookup, found, missing}
 use Rattle.variables.specs.Calls as Calls
-use Rattle.variables.specs.Calls.{Outcome, pickOutcome, refuse, edited, done, refused, callBy, callPairs}
+use Rattle.variables.specs.Calls.{Outcome, refuse, edited, done, refused, callBy, callPairs}
 use Rattle.variables.specs.Places.{namedScan}
 use Rattle.pairs.specs.Places.{findAt}
 use Rattle.edits.specs.Replaced.{Used, tailShifted, replaceReply, replaceArea}
@@ -63,7 +64,7 @@ module _ (before : List Pair) (old : List ℕ) (after : List Pair) (z area : Lis
 
   module _ (start rest used : ℕ) (es : start ≡ length (pairsBytes before)) (er : rest ≡ start + length old) (eu : used ≡ rest + length (pairsBytes after)) where
     pub replaced : (q : Pair) (call : Calls.Call) (o : Outcome)
-        → o ≡ pickOutcome (ltb (length area) (length (pairsBytes (before ++ q ∷ after)) + 1)) (refuse NoRoom call area) (edited (areaOf (length area) (before ++ q ∷ after)))
+        → o ≡ cond (ltb (length area) (length (pairsBytes (before ++ q ∷ after)) + 1)) (refuse NoRoom call area) (edited (areaBytes (length area) (before ++ q ∷ after)))
         → (replaceReply area start rest used (pairBytes q) ≡ o .reply) × (replaceArea area start rest used (pairBytes q) ≡ o .area)
     replaced q call o eo =
         let n : start + length (pairBytes q) + (used - rest) + 1 ≡ length (pairsBytes (before ++ q ∷ after)) + 1 = omega (arith, long-of q) in
@@ -76,7 +77,7 @@ module _ (before : List Pair) (old : List ℕ) (after : List Pair) (z area : Lis
         (λ t.
         let h : length (pairsBytes (before ++ q ∷ after)) + 1 ≤ length area = ltb-false _ _ t in
         let p = has-room area start rest used (pairBytes q) (omega arith) in
-        let f : o ≡ edited (areaOf (length area) (before ++ q ∷ after)) = eo ∙ rw t in
+        let f : o ≡ edited (areaBytes (length area) (before ++ q ∷ after)) = eo ∙ rw t in
         let eu2 : used ≡ length (pairsBytes before) + length old + length (pairsBytes after) = omega arith in
         let er2 : rest ≡ length (pairsBytes before) + length old = omega arith in (
           sym (p .0) ∙ ap (λ (x : Outcome). x .reply) (sym f),
@@ -86,7 +87,7 @@ module _ (before : List Pair) (old : List ℕ) (after : List Pair) (z area : Lis
               ∙ ap (λ (x : Outcome). x .area) (sym f),
         ))
 
-    pub removed : length (pairsBytes (before ++ after)) + 1 ≤ length area → tailShifted area rest start used ≡ areaOf (length area) (before ++ after)
+    pub removed : length (pairsBytes (before ++ after)) + 1 ≤ length area → tailShifted area rest start used ≡ areaBytes (length area) (before ++ after)
     unfolding pairsBytes
     removed h =
         let n : length (pairsBytes before) + 0 ≡ length (pairsBytes before) = omega arith in
@@ -163,9 +164,9 @@ module _ (area : List ℕ) (used : ℕ) (u : Used area used) (name : List ℕ) w
         let s : removePair name (u .pairs) ≡ there .before ++ there .after =
         ap (removePair name) (there .pairs) ∙ remove-split name (there .stored) (there .after) (there .before) (there .fresh) in
         let l : lookup name (u .pairs) ≡ found _ = ap (lookup name) (there .pairs) ∙ lookup-split name (there .stored) (there .after) (there .before) (there .fresh) in
-        let f : callBy (parse area) (Calls.remove name) area ≡ edited (areaOf (length area) (there .before ++ there .after)) =
+        let f : callBy (parse area) (Calls.remove name) area ≡ edited (areaBytes (length area) (there .before ++ there .after)) =
         ap (λ (x : Parse). callBy x (Calls.remove name) area) (u .parses) ∙ ap (λ (x : Lookup). Calls.removeBy x name (u .pairs) area) l
-        ∙ ap (λ (qs : List Pair). edited (areaOf (length area) qs)) s in
+        ∙ ap (λ (qs : List Pair). edited (areaBytes (length area) qs)) s in
         let n : length (pairsBytes (there .before ++ there .after)) ≡ length (pairsBytes (there .before)) + length (pairsBytes (there .after)) =
         ap length (pairs-append (there .before) (there .after)) ∙ length-append (pairsBytes (there .before)) (pairsBytes (there .after)) in (
           ap (λ (x : Outcome). x .reply) (sym f),

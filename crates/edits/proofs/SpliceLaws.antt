@@ -7,7 +7,7 @@ use lib.ListN.{length, take, drop, replicate, length-append}
 use lib.Seq.{take-at, drop-at, take-append-le, take-take, length-take-le}
 use Rattle.lists.specs.Pasted.{pasted}
 use Rattle.pairs.specs.Area.{Pair, pairsBytes}
-use Rattle.variables.specs.Edits.{areaOf}
+use Rattle.variables.specs.Edits.{areaBytes}
 use Rattle.edits.specs.Replaced.{tailShifted}
 use Rattle.pairs.proofs.ParseLaws.{pairs-append}
 use Rattle.variables.proofs.EditLaws.{area-zeros}
@@ -53,7 +53,7 @@ module _ (before : List Pair) (old : List ℕ) (after : List Pair) (z d : List �
       (arith, ap length whole, length-append (pairsBytes before) (pairsBytes new ++ pairsBytes after), length-append (pairsBytes new) (pairsBytes after))
 
   pub pairs-spliced : pasted (tailShifted d (length (pairsBytes before) + length old) (length (pairsBytes before) + length (pairsBytes new))
-      (length (pairsBytes before) + length old + length (pairsBytes after))) (length (pairsBytes before)) (pairsBytes new) ≡ areaOf (length d) (before ++ (new ++ after))
+      (length (pairsBytes before) + length old + length (pairsBytes after))) (length (pairsBytes before)) (pairsBytes new) ≡ areaBytes (length d) (before ++ (new ++ after))
   pairs-spliced =
       spliced (pairsBytes before) old (pairsBytes after) z d e (pairsBytes new) (omega (arith, long))
       ∙ ap (λ (l : List ℕ). pairsBytes before ++ l) (sym (append-assoc (pairsBytes new) (pairsBytes after) _))

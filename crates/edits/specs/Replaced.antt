@@ -1,11 +1,11 @@
 -- What the code of a set and of a removal answers and leaves, by offsets of the area.
 use Prim.Native.Nat.{ℕ, _+_, _-_}
 use mathlib.Core.Path.{_≡_}
-use mathlib.Core.Bool.{Bool, true, false}
+use mathlib.Core.Bool.{Bool, true, false, cond}
 use mathlib.Core.List.{List, _++_}
 use lib.ListN.{length, take, drop, replicate}
 use lib.Dec.{ltb}
-use Rattle.lists.specs.Pasted.{pasted, pickList}
+use Rattle.lists.specs.Pasted.{pasted}
 use Rattle.errors.specs.declared.Error.the-variants.{NoRoom}
 use Rattle.pairs.specs.Area.{Pair, pairsBytes, parse, parsed}
 use Rattle.variables.specs.Calls.{Reply, done, refused}
@@ -21,16 +21,12 @@ unfoldable pub tailShifted : List ℕ → ℕ → ℕ → ℕ → List ℕ
 tailShifted d rest to used =
     take to d ++ (take (used - rest) (drop rest d) ++ replicate (length d - (to + (used - rest))) 0x00)
 
-abbrev pub pickReply : Bool → Reply → Reply → Reply
-pickReply true a b = a
-pickReply false a b = b
-
 -- the bytes from `start` up to `rest` give way to new ones, and what stands up to `used` follows; 13 where that has no room
 unfoldable pub replaceReply : List ℕ → ℕ → ℕ → ℕ → List ℕ → Reply
 replaceReply area start rest used new =
-    pickReply (ltb (length area) (start + length new + (used - rest) + 1)) (refused NoRoom) (done 0)
+    cond (ltb (length area) (start + length new + (used - rest) + 1)) (refused NoRoom) (done 0)
 
 unfoldable pub replaceArea : List ℕ → ℕ → ℕ → ℕ → List ℕ → List ℕ
 replaceArea area start rest used new =
-    pickList (ltb (length area) (start + length new + (used - rest) + 1)) area
+    cond (ltb (length area) (start + length new + (used - rest) + 1)) area
     (pasted (tailShifted area rest (start + length new) used) start new)

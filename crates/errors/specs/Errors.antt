@@ -1,35 +1,32 @@
 -- The table of the codes that a caller may see (document 01: numbers), and the offset answered with each.
-use Prim.Native.Nat.{ℕ}
+use Prim.Native.Nat.{ℕ, _+_}
+use Rattle.errors.specs.declared.HeaderFault.{HeaderFault}
+use Rattle.errors.specs.declared.HeaderFault.the-variants.{ZeroLength, PastEnd, Checksum, ZeroChecksum}
+use Rattle.errors.specs.declared.AreaFault.{AreaFault}
+use Rattle.errors.specs.declared.AreaFault.the-variants.{AreaEnd, StoredName, Escape, Repeated}
 use Rattle.errors.specs.declared.Error.{Error}
-use Rattle.errors.specs.declared.Error.the-variants.{
-  ImageLength,
-  ZeroLength,
-  PastEnd,
-  Checksum,
-  ZeroChecksum,
-  NoPartition,
-  AreaEnd,
-  StoredName,
-  Escape,
-  Repeated,
-  BadName,
-  NoVariable,
-  NoRoom,
-  ShortBuffer,
-}
+use Rattle.errors.specs.declared.Error.the-variants.{ImageLength, BadHeader, NoPartition, BadArea, BadName, NoVariable, NoRoom, ShortBuffer}
+
+-- the code of a header's fault
+abbrev pub headerCode : HeaderFault → ℕ
+headerCode ZeroLength = 2
+headerCode PastEnd = 3
+headerCode Checksum = 4
+headerCode ZeroChecksum = 5
+
+-- the code of a variable area's fault
+abbrev pub areaCode : AreaFault → ℕ
+areaCode AreaEnd = 7
+areaCode StoredName = 8
+areaCode Escape = 9
+areaCode Repeated = 10
 
 -- the code of a refused call (document 01: number)
 abbrev pub codeOf : Error → ℕ
 codeOf ImageLength = 1
-codeOf (ZeroLength at) = 2
-codeOf (PastEnd at) = 3
-codeOf (Checksum at) = 4
-codeOf (ZeroChecksum at) = 5
+codeOf (BadHeader fault at) = headerCode fault
 codeOf NoPartition = 6
-codeOf (AreaEnd at) = 7
-codeOf (StoredName at) = 8
-codeOf (Escape at) = 9
-codeOf (Repeated at) = 10
+codeOf (BadArea fault at) = areaCode fault
 codeOf BadName = 11
 codeOf NoVariable = 12
 codeOf NoRoom = 13
@@ -38,16 +35,21 @@ codeOf ShortBuffer = 14
 -- the offset answered with it, 0 where the table has none (document 01: place)
 abbrev pub offsetOf : Error → ℕ
 offsetOf ImageLength = 0
-offsetOf (ZeroLength at) = at
-offsetOf (PastEnd at) = at
-offsetOf (Checksum at) = at
-offsetOf (ZeroChecksum at) = at
+offsetOf (BadHeader fault at) = at
 offsetOf NoPartition = 0
-offsetOf (AreaEnd at) = at
-offsetOf (StoredName at) = at
-offsetOf (Escape at) = at
-offsetOf (Repeated at) = at
+offsetOf (BadArea fault at) = at
 offsetOf BadName = 0
 offsetOf NoVariable = 0
 offsetOf NoRoom = 0
 offsetOf ShortBuffer = 0
+
+-- an error of a call on a variable area that begins at n: the area's faults get their offsets in the image
+abbrev pub moved : ℕ → Error → Error
+moved n ImageLength = ImageLength
+moved n (BadHeader fault at) = BadHeader fault at
+moved n NoPartition = NoPartition
+moved n (BadArea fault at) = BadArea fault (n + at)
+moved n BadName = BadName
+moved n NoVariable = NoVariable
+moved n NoRoom = NoRoom
+moved n ShortBuffer = ShortBuffer

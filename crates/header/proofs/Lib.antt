@@ -2,3 +2,4 @@ pub mod SumLaws
 pub mod ChecksumLaws
 pub mod ValidityLaws
 pub mod RuleLaws
+pub mod SameLaws

@@ -10,8 +10,8 @@ use Rattle.lists.specs.Bytes.{AllBytes}
 use Rattle.lists.proofs.Tests.{clash}
 use Rattle.lists.proofs.ByteLaws.{every-get}
 use Rattle.header.specs.declared.Blocks.{Blocks}
-use Rattle.errors.specs.declared.Error.{Error}
-use Rattle.errors.specs.declared.Error.the-variants.{ZeroLength, Checksum}
+use Rattle.errors.specs.declared.HeaderFault.{HeaderFault}
+use Rattle.errors.specs.declared.Error.the-variants.{BadHeader}
 use Rattle.header.specs.declared.Validity.{Validity}
 use Rattle.header.specs.declared.Validity.the-variants.{Valid, Invalid}
 use Rattle.header.specs.Checksum.{sum, sumcheck, closedForm}
@@ -89,7 +89,7 @@ module _ (image : List ℕ) (at : ℕ) where
         fits : bytesOf (headerAt image at .length) .0 ≤ length image - at
         fits = let p : headerAt image at .length .0 * 16 ≤ length image - at = omega (arith, blocks-read) in p
 
-    pub breaks-invalid : {e : Error} → Breaks image at e → validityAt image at ≡ Invalid e
+    pub breaks-invalid : {f : HeaderFault} → Breaks image at f → validityAt image at ≡ Invalid (BadHeader f at)
     unfolding validityAt validityOf
     breaks-invalid (two z) =
         let h = headerAt image at in
@@ -117,14 +117,14 @@ module _ (image : List ℕ) (at : ℕ) where
     -- what the rules say of the header at an offset
     data Judged : Validity → Type 0 where
       sound : Sound image at → Judged Valid
-      faulty : {e : Error} → Breaks image at e → Judged (Invalid e)
+      faulty : {f : HeaderFault} → Breaks image at f → Judged (Invalid (BadHeader f at))
 
     judged : Judged (validityAt image at)
     judged =
         go (ℕ-discrete (blocksAt image at) 0) (decLe (at + blocksAt image at * 16) (length image))
         (ℕ-discrete (byteAt image at 1) (checksumAt image at)) (ℕ-discrete (byteAt image at 1) 0)
       where
-        broken : {e : Error} → Breaks image at e → Judged (validityAt image at)
+        broken : {f : HeaderFault} → Breaks image at f → Judged (validityAt image at)
         broken b = rw (breaks-invalid b) (faulty b)
 
         go : Dec (blocksAt image at ≡ 0) → Dec (at + blocksAt image at * 16 ≤ length image) → Dec (byteAt image at 1 ≡ checksumAt image at)
@@ -146,9 +146,9 @@ module _ (image : List ℕ) (at : ℕ) where
         go (Invalid x) (faulty b) e = clash (cc)
 
     -- and a rule is the first one broken exactly when it is, and the earlier ones hold
-    pub invalid-exactly : (e : Error) → (validityAt image at ≡ Invalid e) ↔ Breaks image at e
-    invalid-exactly e = (go (validityAt image at) judged, breaks-invalid)
+    pub invalid-exactly : (f : HeaderFault) → (validityAt image at ≡ Invalid (BadHeader f at)) ↔ Breaks image at f
+    invalid-exactly f = (go (validityAt image at) judged, breaks-invalid)
       where
-        go : (v : Validity) → Judged v → v ≡ Invalid e → Breaks image at e
+        go : (v : Validity) → Judged v → v ≡ Invalid (BadHeader f at) → Breaks image at f
         go Valid (sound s) q = clash (cc)
-        go (Invalid x) (faulty b) q = let p : x ≡ e = cc in rw p at b
+        go (Invalid x) (faulty {f = g} b) q = let p : g ≡ f = cc in rw p at b

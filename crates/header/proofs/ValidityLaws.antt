@@ -1,11 +1,12 @@
 -- What `validityOf` and `newHeader` answer, by the tests that the code makes.
-use Prim.Native.Nat.{ℕ, _*_, _≤_, _<_}
+use Prim.Native.Nat.{ℕ, _-_, _*_, _≤_, _<_}
 use mathlib.Core.Path.{_≡_, subst, refl, sym, _∙_}
-use mathlib.Core.Bool.{Bool, true, false, _&&_}
+use mathlib.Core.Bool.{Bool, true, false, not, _&&_, cond}
 use mathlib.Core.Logic.{_≢_}
 use mathlib.Core.List.{List}
 use native.Mathlib.Omega.{arith}
 use native.Mathlib.Decide.{ℕ-discrete}
+use lib.ListN.{length as len}
 use lib.Dec.{leb, ltb, eqb}
 use borrow.Author.Tests.{eq-eqb, ne-eqb, lt-ltb, le-ltb, le-leb, lt-leb, eqb-false, ltb-false}
 use Rattle.lists.proofs.Tests.{clash}
@@ -16,16 +17,18 @@ use Rattle.header.specs.declared.NewHeader.{NewHeader}
 use Rattle.header.specs.declared.Validity.{Validity}
 use Rattle.header.specs.declared.Validity.the-variants.{Valid, Invalid}
 use Rattle.errors.specs.declared.Error.{Error}
-use Rattle.errors.specs.declared.Error.the-variants.{ZeroLength, PastEnd, Checksum, ZeroChecksum}
+use Rattle.errors.specs.declared.HeaderFault.{HeaderFault}
+use Rattle.errors.specs.declared.HeaderFault.the-variants.{ZeroLength, PastEnd, Checksum, ZeroChecksum}
+use Rattle.errors.specs.declared.Error.the-variants.{BadHeader}
 use Rattle.header.specs.Checksum.{sumcheck}
-use Rattle.header.specs.Header.{bytesOf, covered, newHeader, pickValidity, firstBroken, validityOf}
+use Rattle.header.specs.Header.{bytesOf, headerAt, covered, newHeader, firstBroken, validityOf, validityAt}
 
 module _ (blocks : Blocks) (stored computed at room : ℕ) where
-  pub zero-length : blocks .0 ≡ 0 → Invalid (ZeroLength at) ≡ firstBroken blocks stored computed at room
+  pub zero-length : blocks .0 ≡ 0 → Invalid (BadHeader ZeroLength at) ≡ firstBroken blocks stored computed at room
   zero-length z = rw (eq-eqb _ _ z)
 
   module _ (z : blocks .0 ≡ 0 → ⊥) (b : Bytes) (eb : b ≡ bytesOf blocks) where
-    pub past-end : room < b .0 → Invalid (PastEnd at) ≡ firstBroken blocks stored computed at room
+    pub past-end : room < b .0 → Invalid (BadHeader PastEnd at) ≡ firstBroken blocks stored computed at room
     past-end p =
         let q : room < bytesOf blocks .0 = subst (λ (x : Bytes). room < x .0) eb p in
         rw (ne-eqb _ _ z, lt-ltb _ _ q)
@@ -34,10 +37,10 @@ module _ (blocks : Blocks) (stored computed at room : ℕ) where
       fits : bytesOf blocks .0 ≤ room
       fits = subst (λ (x : Bytes). x .0 ≤ room) eb p
 
-      pub checksum-differs : (stored ≡ computed → ⊥) → Invalid (Checksum at) ≡ firstBroken blocks stored computed at room
+      pub checksum-differs : (stored ≡ computed → ⊥) → Invalid (BadHeader Checksum at) ≡ firstBroken blocks stored computed at room
       checksum-differs d = rw (ne-eqb _ _ z, le-ltb _ _ fits, ne-eqb _ _ d)
 
-      pub checksum-zero : stored ≡ computed → computed ≡ 0 → Invalid (ZeroChecksum at) ≡ firstBroken blocks stored computed at room
+      pub checksum-zero : stored ≡ computed → computed ≡ 0 → Invalid (BadHeader ZeroChecksum at) ≡ firstBroken blocks stored computed at room
       checksum-zero a n = rw (ne-eqb _ _ z, le-ltb _ _ fits, eq-eqb _ _ a, eq-eqb _ _ n)
 
       pub no-rule-broken : stored ≡ computed → (computed ≡ 0 → ⊥) → Valid ≡ firstBroken blocks stored computed at room
@@ -87,8 +90,26 @@ module _ (signature : ℕ) (blocks : Blocks) (name : List ℕ) (s : ℕ)
         (newHeader signature blocks name)
     new-allowed l = made true (rw (le-leb _ _ least, le-leb _ _ l))
 
+-- an invalid header is refused for a fault of its own, at its own offset
+fault-by : (a b c d : Bool) (at : ℕ) (e : Error)
+    → cond a (Invalid (BadHeader ZeroLength at)) (cond b (Invalid (BadHeader PastEnd at))
+    (cond c (Invalid (BadHeader Checksum at)) (cond d (Invalid (BadHeader ZeroChecksum at)) Valid))) ≡ Invalid e
+    → (f : HeaderFault) × (e ≡ BadHeader f at)
+fault-by true b c d at e q = (ZeroLength, cc)
+fault-by false true c d at e q = (PastEnd, cc)
+fault-by false false true d at e q = (Checksum, cc)
+fault-by false false false true at e q = (ZeroChecksum, cc)
+fault-by false false false false at e q = clash (cc)
+
+pub invalid-here : (image : List ℕ) (at : ℕ) (e : Error) → validityAt image at ≡ Invalid e → (f : HeaderFault) × (e ≡ BadHeader f at)
+unfolding validityAt validityOf
+invalid-here image at e q =
+    let h : Header = headerAt image at in
+    fault-by (eqb (h .length .0) 0) (ltb (len image - at) (bytesOf (h .length) .0)) (not (eqb (h .checksum) (sumcheck (covered h))))
+    (eqb (sumcheck (covered h)) 0) at e q
+
 -- the first two tests of a header that breaks no rule
-valid-tests : (a b : Bool) (w x : Error) (v : Validity) → pickValidity a (Invalid w) (pickValidity b (Invalid x) v) ≡ Valid
+valid-tests : (a b : Bool) (w x : Error) (v : Validity) → cond a (Invalid w) (cond b (Invalid x) v) ≡ Valid
     → (a ≡ false) × (b ≡ false)
 valid-tests true b w x v e = clash (cc)
 valid-tests false true w x v e = clash (cc)
@@ -97,7 +118,7 @@ valid-tests false false w x v e = (refl, refl)
 module _ (h : Header) (at room : ℕ) (e : validityOf h at room ≡ Valid) where
   tests : (eqb (h .length .0) 0 ≡ false) × (ltb room (bytesOf (h .length) .0) ≡ false)
   unfolding validityOf
-  tests = valid-tests _ _ (ZeroLength at) (PastEnd at) _ e
+  tests = valid-tests _ _ (BadHeader ZeroLength at) (BadHeader PastEnd at) _ e
 
   pub valid-nonzero : h .length .0 ≢ 0
   valid-nonzero = eqb-false _ _ (tests .0)

@@ -1,6 +1,6 @@
 -- The header of a partition: 16 bytes of signature, checksum, length and name.
 use Prim.Native.Nat.{ℕ, _+_, _-_, _*_, _/_, _%_}
-use mathlib.Core.Bool.{Bool, true, false, not, _&&_}
+use mathlib.Core.Bool.{Bool, true, false, not, _&&_, cond}
 use mathlib.Core.List.{List, [], _∷_}
 use lib.ListN.{length, getD}
 use lib.Dec.{leb, ltb, eqb}
@@ -12,7 +12,8 @@ use Rattle.errors.specs.Errors.{codeOf, offsetOf}
 use Rattle.header.specs.declared.ValidityAnswer.{ValidityAnswer}
 use Rattle.header.specs.declared.Validity.{Validity}
 use Rattle.header.specs.declared.Validity.the-variants.{Valid, Invalid}
-use Rattle.errors.specs.declared.Error.the-variants.{ZeroLength, PastEnd, Checksum, ZeroChecksum}
+use Rattle.errors.specs.declared.HeaderFault.the-variants.{ZeroLength, PastEnd, Checksum, ZeroChecksum}
+use Rattle.errors.specs.declared.Error.the-variants.{BadHeader}
 use Rattle.header.specs.Checksum.{sumcheck}
 
 -- 16 bytes to a block
@@ -59,17 +60,13 @@ unfoldable pub newHeader : ℕ → Blocks → List ℕ → NewHeader
 newHeader signature blocks name =
     record { header = sealed signature blocks name; allowed = leb 1 (blocks .0) && leb (blocks .0) 65535 }
 
-abbrev pub pickValidity : Bool → Validity → Validity → Validity
-pickValidity true a b = a
-pickValidity false a b = b
-
 -- the first rule broken by a length, a stored and a computed checksum, at an offset with so many bytes of the image left
 abbrev pub firstBroken : Blocks → ℕ → ℕ → ℕ → ℕ → Validity
 firstBroken blocks stored computed at room =
-    pickValidity (eqb (blocks .0) 0) (Invalid (ZeroLength at))
-    (pickValidity (ltb room (bytesOf blocks .0)) (Invalid (PastEnd at))
-    (pickValidity (not (eqb stored computed)) (Invalid (Checksum at))
-    (pickValidity (eqb computed 0) (Invalid (ZeroChecksum at))
+    cond (eqb (blocks .0) 0) (Invalid (BadHeader ZeroLength at))
+    (cond (ltb room (bytesOf blocks .0)) (Invalid (BadHeader PastEnd at))
+    (cond (not (eqb stored computed)) (Invalid (BadHeader Checksum at))
+    (cond (eqb computed 0) (Invalid (BadHeader ZeroChecksum at))
     Valid)))
 
 -- the first rule that a header breaks, where it stands there

@@ -4,8 +4,8 @@ use mathlib.Core.Path.{_≡_}
 use mathlib.Core.Logic.{_≢_}
 use mathlib.Core.List.{List, _∷_}
 use lib.ListN.{length}
-use Rattle.errors.specs.declared.Error.{Error}
-use Rattle.errors.specs.declared.Error.the-variants.{ZeroLength, PastEnd, Checksum, ZeroChecksum}
+use Rattle.errors.specs.declared.HeaderFault.{HeaderFault}
+use Rattle.errors.specs.declared.HeaderFault.the-variants.{ZeroLength, PastEnd, Checksum, ZeroChecksum}
 use Rattle.header.specs.Checksum.{sum, closedForm}
 use Rattle.header.specs.Header.{byteAt, nameAt}
 
@@ -26,10 +26,10 @@ pub record Sound (image : List ℕ) (at : ℕ) : Type 0 where
   pub marked : byteAt image at 1 ≢ 0
 
 -- the first rule that a header breaks: one case for each of 2, 3, 4, 5, the earlier ones kept
-pub data Breaks (image : List ℕ) (at : ℕ) : Error → Type 0 where
-  two : blocksAt image at ≡ 0 → Breaks image at (ZeroLength at)
-  three : blocksAt image at ≢ 0 → length image < at + blocksAt image at * 16 → Breaks image at (PastEnd at)
+pub data Breaks (image : List ℕ) (at : ℕ) : HeaderFault → Type 0 where
+  two : blocksAt image at ≡ 0 → Breaks image at ZeroLength
+  three : blocksAt image at ≢ 0 → length image < at + blocksAt image at * 16 → Breaks image at PastEnd
   four : blocksAt image at ≢ 0 → at + blocksAt image at * 16 ≤ length image
-      → byteAt image at 1 ≢ checksumAt image at → Breaks image at (Checksum at)
+      → byteAt image at 1 ≢ checksumAt image at → Breaks image at Checksum
   five : blocksAt image at ≢ 0 → at + blocksAt image at * 16 ≤ length image
-      → byteAt image at 1 ≡ checksumAt image at → byteAt image at 1 ≡ 0 → Breaks image at (ZeroChecksum at)
+      → byteAt image at 1 ≡ checksumAt image at → byteAt image at 1 ≡ 0 → Breaks image at ZeroChecksum

@@ -1,5 +1,6 @@
 // The header of a partition, its checksum and its rules.
 use errors::Error;
+use errors::HeaderFault;
 ghost use mathlib.Core.Path.{_≡_};
 ghost use Prim.Native.Nat.{_+_, _/_, _%_, _≤_};
 ghost use lib.ListN.{length as len};
@@ -180,17 +181,21 @@ fn first_broken(blocks: Blocks, stored: u8, computed: u8, at: usize, room: usize
     ensures { λ r. ⌜ r ≡ firstBroken blocks stored computed at room ⌝ }
 {
     if blocks.0 == 0 {
-        return Validity::Invalid(Error::ZeroLength { at });
+        let fault = HeaderFault::ZeroLength;
+        return Validity::Invalid(Error::BadHeader { fault, at });
     }
     let bytes = blocks.bytes();
     if room < bytes.0 {
-        return Validity::Invalid(Error::PastEnd { at });
+        let fault = HeaderFault::PastEnd;
+        return Validity::Invalid(Error::BadHeader { fault, at });
     }
     if stored != computed {
-        return Validity::Invalid(Error::Checksum { at });
+        let fault = HeaderFault::Checksum;
+        return Validity::Invalid(Error::BadHeader { fault, at });
     }
     if computed == 0 {
-        return Validity::Invalid(Error::ZeroChecksum { at });
+        let fault = HeaderFault::ZeroChecksum;
+        return Validity::Invalid(Error::BadHeader { fault, at });
     }
     Validity::Valid
 }

@@ -1,22 +1,20 @@
 -- Laws of the text: a number in decimal reads back, a text is never longer than 131,072 bytes, and what it is in each case.
 use Prim.Native.Nat.{ℕ, zero, suc, _+_, _-_, _*_, _/_, _%_, _≤_, _<_}
 use mathlib.Core.Path.{_≡_, refl, sym, ap, _∙_}
-use mathlib.Core.Bool.{Bool, true, false, not}
+use mathlib.Core.Bool.{true, false}
 use mathlib.Core.List.{List, [], _∷_, _++_}
 use native.Mathlib.Omega.{arith}
-use lib.Dec.{eqb, ltb}
+use lib.Dec.{ltb}
 use lib.ListN.{length, getD, length-append, List·getD-append}
 use borrow.Author.Tests.{ltb-true, ltb-false, lt-ltb, le-ltb}
 use Rattle.lists.specs.Bytes.{Every}
 use Rattle.lists.proofs.Tests.{split, clash}
+use Rattle.lists.proofs.ListLaws.{every-append}
 use Rattle.errors.specs.declared.Error.{Error}
-use Rattle.errors.specs.declared.Error.the-variants.{ImageLength, ZeroLength, PastEnd, Checksum, ZeroChecksum}
+use Rattle.errors.specs.declared.Error.the-variants.{ImageLength}
 use Rattle.errors.proofs.ErrorLaws.{code-range}
-use Rattle.header.specs.declared.Validity.the-variants.{Valid, Invalid}
+use Rattle.header.proofs.ValidityLaws.{invalid-here}
 use Rattle.errors.specs.Errors.{codeOf, offsetOf}
-use Rattle.header.specs.declared.Header.{Header}
-use Rattle.header.specs.Checksum.{sumcheck}
-use Rattle.header.specs.Header.{bytesOf, covered as summed, headerAt, validityOf, validityAt, pickValidity}
 use Rattle.partitions.specs.declared.Partition.{Partition}
 use Rattle.partitions.specs.declared.Step.{Step}
 use Rattle.partitions.specs.declared.Step.the-variants.{Next, End, Broken as Breaks}
@@ -48,10 +46,6 @@ decimal-value =
     by-digits (λ n. number (decimal n) ≡ n) (λ n h. rw (decimal-digit n h) (omega arith))
     (λ n h e. rw (decimal-more n h) (number-last 0 (decimal (n / 10)) (48 + n % 10) ∙ rw e (omega arith)))
 
-every-append : (P : ℕ → Type 0) (xs ys : List ℕ) → Every P xs → Every P ys → Every P (xs ++ ys)
-every-append P [] ys hx hy = hy
-every-append P (x ∷ xs) ys hx hy = (hx .0, every-append P xs ys (hx .1) hy)
-
 -- every byte is a digit
 pub decimal-digits : (n : ℕ) → Every (λ d. (0x30 ≤ d) × (d ≤ 0x39)) (decimal n)
 decimal-digits =
@@ -64,23 +58,6 @@ decimal-first =
     by-digits (λ n. 0 < n → getD (decimal n) 0 0 ≡ 0x30 → ⊥) (λ n h p. rw (decimal-digit n h) (λ e. omega arith))
     (λ n h ih p e. ih (omega arith) (sym (List·getD-append (decimal (n / 10)) ((48 + n % 10) ∷ []) 0 0 (decimal-some (n / 10)))
     ∙ sym (ap (λ (l : List ℕ). getD l 0 0) (decimal-more n h)) ∙ e))
-
--- what breaks a header's rules is answered with its offset
-place-by : (a b c d : Bool) (at : ℕ) (e : Error)
-    → pickValidity a (Invalid (ZeroLength at)) (pickValidity b (Invalid (PastEnd at)) (pickValidity c (Invalid (Checksum at)) (pickValidity d (Invalid (ZeroChecksum at)) Valid)))
-    ≡ Invalid e → offsetOf e ≡ at
-place-by true b c d at e q = let z : ZeroLength at ≡ e = cc in sym (ap offsetOf z)
-place-by false true c d at e q = let z : PastEnd at ≡ e = cc in sym (ap offsetOf z)
-place-by false false true d at e q = let z : Checksum at ≡ e = cc in sym (ap offsetOf z)
-place-by false false false true at e q = let z : ZeroChecksum at ≡ e = cc in sym (ap offsetOf z)
-place-by false false false false at e q = clash (cc)
-
-invalid-place : (image : List ℕ) (at : ℕ) (e : Error) → validityAt image at ≡ Invalid e → offsetOf e ≡ at
-unfolding validityAt validityOf
-invalid-place image at e q =
-    let h : Header = headerAt image at in
-    place-by (eqb (h .length .0) 0) (ltb (length image - at) (bytesOf (h .length) .0)) (not (eqb (h .checksum) (sumcheck (summed h))))
-    (eqb (sumcheck (summed h)) 0) at e q
 
 -- what a walk from an offset finds: lines of at most 28 bytes for each block, or an offset inside the image
 data Within (image : List ℕ) (at : ℕ) : Walk → Type 0 where
@@ -110,7 +87,7 @@ module _ (image : List ℕ) (h : length image ≤ 65_536) where
       go (Next p c) (goes i v) ih =
           let g = valid-goes image at i v in
           within-first at g (walkFrom n image (pastOf image at)) (ih (g .inside) (omega (arith, g .some, g .past)))
-      go (Breaks x) (breaks i v) ih = stops {e = x} (omega (arith, invalid-place image at x v))
+      go (Breaks x) (breaks i v) ih = stops {e = x} (omega (arith, ap offsetOf (invalid-here image at x v .1)))
 
   rest-within : Within image 0 (rest image 0)
   unfolding rest

@@ -1,6 +1,6 @@
 -- What writing a listing into a lent buffer answers and leaves.
 use Prim.Native.Nat.{ℕ}
-use mathlib.Core.Bool.{Bool, true, false}
+use mathlib.Core.Bool.{Bool, true, false, cond}
 use mathlib.Core.List.{List}
 use lib.ListN.{length}
 use lib.Dec.{leb}
@@ -10,13 +10,9 @@ use Rattle.listing.specs.declared.Listed.{Listed}
 use Rattle.listing.specs.declared.Listed.the-variants.{Written, Refused}
 use Rattle.listing.specs.declared.ListAnswer.{ListAnswer}
 
-abbrev pub pickListed : Bool → Listed → Listed → Listed
-pickListed true a b = a
-pickListed false a b = b
-
 -- the text's length where the buffer has room for it; else code 14
 unfoldable pub listedOf : List ℕ → ℕ → Listed
-listedOf text room = pickListed (leb (length text) room) (Written (length text)) (Refused ShortBuffer)
+listedOf text room = cond (leb (length text) room) (Written (length text)) (Refused ShortBuffer)
 
 -- the caller's view: code 0 and the length, or the error's code and 0
 abbrev pub listAnswer : Listed → ListAnswer

@@ -1,6 +1,6 @@
 -- Laws of lists: one element further, runs, what all elements are.
 use Prim.Native.Nat.{ℕ, zero, suc, _+_, _<_}
-use mathlib.Core.Path.{_≡_, sym, ap, _∙_}
+use mathlib.Core.Path.{_≡_, refl, sym, ap, _∙_}
 use mathlib.Core.List.{List, [], _∷_, _++_, append-assoc}
 use native.Mathlib.Numerals.{add-one}
 use lib.ListN.{length, getD, drop, replicate, replicate-append-replicate}
@@ -23,3 +23,9 @@ every-append P (x ∷ s) t h k = (h .0, every-append P s t (h .1) k)
 pub every-replicate : (P : ℕ → Type 0) (n b : ℕ) → P b → Every P (replicate n b)
 every-replicate P zero b h = tt
 every-replicate P (suc n) b h = (h, every-replicate P n b h)
+
+-- zeros, and zero past their end
+pub zeros-at : (n i : ℕ) → _≡_ {A = ℕ} (getD (replicate n 0) i 0) 0
+zeros-at zero i = refl
+zeros-at (suc n) zero = refl
+zeros-at (suc n) (suc i) = zeros-at n i

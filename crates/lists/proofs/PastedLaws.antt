@@ -9,7 +9,10 @@ use native.Mathlib.Omega.{arith}
 use lib.ListN.{length, getD, set, take, drop, length-append, length-drop, take-append-drop, drop-of-length-le}
 use lib.Seq.{drop-append-le, drop-drop, take-at, drop-at, set-split, length-take-le, getD-drop, getD-take, take-suc, take-all, append-snoc, take-take}
 use borrow.Rule.Slice.PartMut.{putMid, midOf, mid-len, post-is}
+use Rattle.lists.specs.Bytes.{AllBytes}
 use Rattle.lists.specs.Pasted.{pasted}
+use Rattle.lists.proofs.ListLaws.{every-append}
+use Rattle.lists.proofs.ByteLaws.{every-take, every-drop}
 
 pub pasted-none : (d : List ℕ) (at : ℕ) → d ≡ pasted d at []
 unfolding pasted
@@ -69,6 +72,13 @@ module _ (d : List ℕ) (at : ℕ) (w : List ℕ) (room : at + length w ≤ leng
   pub drop-pasted-at : drop at (pasted d at w) ≡ w ++ drop (at + length w) d
   unfolding pasted
   drop-pasted-at = rw append-assoc (drop-at (take at d) (w ++ drop (at + length w) d) at (length-take-le at d (omega arith)))
+
+-- bytes written over bytes
+pub bytes-pasted : (d : List ℕ) (at : ℕ) (w : List ℕ) → AllBytes d → AllBytes w → AllBytes (pasted d at w)
+unfolding pasted
+bytes-pasted d at w f g =
+    every-append (λ b. b < 256) (take at d ++ w) (drop (at + length w) d)
+    (every-append (λ b. b < 256) (take at d) w (every-take (λ b. b < 256) at d f) g) (every-drop (λ b. b < 256) (at + length w) d f)
 
 -- one byte is a piece
 pub set-pasted : (d : List ℕ) (i v : ℕ) → i < length d → set d i v ≡ pasted d i (v ∷ [])

@@ -12,7 +12,7 @@ use Rattle.lists.specs.Bytes.{Every}
 use Rattle.lists.proofs.Tests.{split, clash}
 use Rattle.names.specs.declared.NameCheck.{NameCheck}
 use Rattle.names.specs.declared.NameCheck.the-variants.{Good, Wrong}
-use Rattle.names.specs.Name.{within, nameByte, nameCheckFrom, nameCheck, isGood, goodName}
+use Rattle.names.specs.Name.{within, nameByte, nameCheckFrom, nameCheck}
 use Rattle.names.specs.Rules.{NameByte, NameRule, FirstWrong, empty, byte}
 use Rattle.lists.proofs.ListLaws.{drop-next}
 
@@ -60,8 +60,8 @@ rule-byte b r =
 pub name-byte-exactly : (b : ℕ) → (nameByte b ≡ true) ↔ NameByte b
 name-byte-exactly b = (byte-rule b, rule-byte b)
 
-not-rule-byte : (b : ℕ) → ¬ (NameByte b) → nameByte b ≡ false
-not-rule-byte b h = split (nameByte b) (λ t. absurd (h (byte-rule b t))) (λ t. t)
+pub not-byte : (b : ℕ) → ¬ (NameByte b) → nameByte b ≡ false
+not-byte b h = split (nameByte b) (λ t. absurd (h (byte-rule b t))) (λ t. t)
 
 -- how many bytes below b are allowed
 abbrev pub allowedBelow : ℕ → ℕ
@@ -123,16 +123,14 @@ check-good-exactly name = (
   λ r. good-from 0 name (omega arith) (omega (arith, r .least)) (omega (arith, r .most)) (r .each),
 )
 
-is-good : (c : NameCheck) → isGood c ≡ true → c ≡ Good
-is-good Good e = refl
-is-good (Wrong at) e = not-so e
+-- a case split on a check that keeps the equation
+pub split-check : {A : Type 0} (c : NameCheck) → (c ≡ Good → A) → ((at : ℕ) → c ≡ Wrong at → A) → A
+split-check Good f g = f refl
+split-check (Wrong at) f g = g at refl
 
-pub good-name-exactly : (name : List ℕ) → (goodName name ≡ true) ↔ NameRule name
-unfolding goodName
-good-name-exactly name = (
-  λ e. check-good-exactly name .0 (is-good (nameCheck name) e),
-  λ r. ap isGood (check-good-exactly name .1 r),
-)
+-- a check that finds something wrong is of a name that breaks the rule
+pub check-wrong : {name : List ℕ} {at : ℕ} → nameCheck name ≡ Wrong at → ¬ (NameRule name)
+check-wrong {name} e r = clash (cc (check-good-exactly name .1 r))
 
 -- ---- the name that is wrong
 
@@ -144,7 +142,7 @@ record WrongAt (j : ℕ) (bs : List ℕ) (k : ℕ) : Type 0 where
   there : (¬ (NameByte (getD bs k 0))) ⊎ (j + k ≡ 31)
 
 wrong-there : (j b : ℕ) (bs : List ℕ) → (¬ (NameByte b)) ⊎ (j + 0 ≡ 31) → nameCheckFrom j (b ∷ bs) ≡ Wrong j
-wrong-there j b bs (inl n) = check-refused j b bs (not-rule-byte b n)
+wrong-there j b bs (inl n) = check-refused j b bs (not-byte b n)
 wrong-there j b bs (inr e) = check-long j b bs (omega arith)
 
 there-as : (b m n : ℕ) → m ≡ n → (¬ (NameByte b)) ⊎ (m ≡ 31) → (¬ (NameByte b)) ⊎ (n ≡ 31)

@@ -1,6 +1,6 @@
 -- The rule of a variable's name, and where a name breaks it first.
 use Prim.Native.Nat.{ℕ, suc, _+_}
-use mathlib.Core.Bool.{Bool, true, false, _&&_, not}
+use mathlib.Core.Bool.{Bool, true, false, _&&_, not, cond}
 use mathlib.Core.List.{List, [], _∷_}
 use lib.Dec.{leb, ltb, eqb}
 use Rattle.names.specs.declared.NameCheck.{NameCheck}
@@ -21,25 +21,17 @@ unfoldable pub allowedAhead : List ℕ → ℕ
 allowedAhead [] = 0
 allowedAhead (b ∷ bs) = elim (nameByte b) [ true ↦ suc (allowedAhead bs) | false ↦ 0 ]
 
--- the first if the test holds, else the second
-abbrev pub pickCheck : Bool → NameCheck → NameCheck → NameCheck
-pickCheck true a b = a
-pickCheck false a b = b
-
 -- the bytes from index i on: at most 31 in all, each allowed; none at all is wrong at 0
 unfoldable pub nameCheckFrom : ℕ → List ℕ → NameCheck
-nameCheckFrom i [] = pickCheck (eqb i 0) (Wrong 0) Good
-nameCheckFrom i (b ∷ bs) = pickCheck (ltb i 31 && nameByte b) (nameCheckFrom (i + 1) bs) (Wrong i)
+nameCheckFrom i [] = cond (eqb i 0) (Wrong 0) Good
+nameCheckFrom i (b ∷ bs) = cond (ltb i 31 && nameByte b) (nameCheckFrom (i + 1) bs) (Wrong i)
 
 -- a name has 1 to 31 bytes, each allowed; the index is that of the first byte that is not, or of the 32nd
 unfoldable pub nameCheck : List ℕ → NameCheck
 nameCheck name = nameCheckFrom 0 name
 
--- whether a check found nothing wrong
-abbrev pub isGood : NameCheck → Bool
-isGood Good = true
-isGood (Wrong at) = false
-
--- whether a name keeps the rule
-unfoldable pub goodName : List ℕ → Bool
-goodName name = isGood (nameCheck name)
+-- a choice by what the check of a name found: the first where it is good, else the second, of the index
+module _ {A : Type 0} where
+  abbrev pub onCheck : NameCheck → A → (ℕ → A) → A
+  onCheck Good a f = a
+  onCheck (Wrong at) a f = f at

@@ -24,14 +24,15 @@ use Rattle.pairs.specs.declared.Place.{Place}
 use Rattle.pairs.specs.Scan.{pair, standAt}
 use Rattle.pairs.specs.Area.{Pair, pairBytes, pairsBytes, Parse, parsed, parse}
 use Rattle.variables.specs.Edits.{canonicalPair, normalizePairs}
-use Rattle.variables.specs.Calls.{normalize, done, refused, wellNamed, callPairs, callArea}
+use Rattle.variables.specs.Calls.{normalize, done, refused, Outcome, callArea}
+use Rattle.variables.proofs.CallLaws.{check-normalize, call-parsed, normalize-done as normalize-outcome}
 use Rattle.pairs.specs.Places.{placeOf, scannedOf}
 use Rattle.normalization.specs.Normalized.{PairMoves, pairRecoded, Parses, normalizedBytes}
 use Rattle.pairs.proofs.ScanLaws.{a-pair, stand-end, standing-stand}
 use Rattle.pairs.proofs.ParseLaws.{Good, none, more, pair-front, area-read}
 use Rattle.variables.proofs.EditLaws.{area-zeros}
 use Rattle.pairs.proofs.PairPlaces.{drop-past, past-inside}
-use Rattle.variables.proofs.CallPlaces.{scanned-pairs, scanned-refused}
+use Rattle.variables.proofs.CallPlaces.{scanned-pairs, scan-faulty}
 
 -- ---- one pair: d is the area before, d₁ with the name moved, d₂ with the value made canonical
 
@@ -343,14 +344,15 @@ scan-parses d sought k u place h =
 -- a fault refuses the call
 pub normalize-refused : (d : List ℕ) (sought : Place) (e : Error) → Scanned.Refused e ≡ scannedOf (parse d) sought
     → (refused e ≡ callArea normalize d .reply) × (d ≡ callArea normalize d .area)
-unfolding callArea wellNamed
-normalize-refused d sought e h = let k = scanned-refused (parse d) sought e h in (rw k, rw k)
+normalize-refused d sought e h =
+    let k = scan-faulty normalize d sought e check-normalize h in
+    (sym (ap (λ (o : Outcome). o .reply) k), sym (ap (λ (o : Outcome). o .area) k))
 
 -- the pairs in canonical form, and the rest zeroed
 pub normalize-done : {d : List ℕ} → Parses d → (n : ℕ) → n < length d → n ≡ length (normalizedBytes (parse d)) → (d₁ : List ℕ)
     → d₁ ≡ pasted d 0 (normalizedBytes (parse d)) → (last : List ℕ) → last ≡ replicate (length (midOf n (length d₁ - n) d₁)) 0x00
     → (done 0 ≡ callArea normalize d .reply) × (putMid n (length d₁ - n) d₁ last ≡ callArea normalize d .area)
-unfolding callArea wellNamed callPairs normalizedBytes
+unfolding normalizedBytes
 normalize-done {d} p n h k d₁ f last g =
     let w : List ℕ = pairsBytes (normalizePairs (p .pairs)) in
     let kn : n ≡ length w = k ∙ ap (λ (y : Parse). length (normalizedBytes y)) (p .reads) in
@@ -358,12 +360,13 @@ normalize-done {d} p n h k d₁ f last g =
     let long : length d₁ ≡ length d = ap length f₁ ∙ length-pasted d 0 w (omega arith) in
     let z : List ℕ = replicate (length d - length w) 0x00 in
     let lz : length z ≡ length d - length w = length-replicate (length d - length w) 0x00 in
-    let t : n ≡ 0 + length w = omega arith in (
-      rw (p .reads),
+    let t : n ≡ 0 + length w = omega arith in
+    let o = call-parsed normalize d check-normalize (p .pairs) (p .reads) ∙ normalize-outcome (p .pairs) d in (
+      sym (ap (λ (x : Outcome). x .reply) o),
       part-filled d₁ n (length d₁) 0x00 last (omega arith) (omega arith) g
           ∙ (λ i. pasted (f₁ i) (t i) (replicate (long i - kn i) 0x00))
           ∙ pasted-more d 0 w (omega arith) z (omega arith)
           ∙ pasted-last d 0 (w ++ z) (omega (arith, length-append w z))
           ∙ area-zeros (length d) (normalizePairs (p .pairs)) (omega arith)
-          ∙ rw (p .reads),
+          ∙ sym (ap (λ (x : Outcome). x .area) o),
     )

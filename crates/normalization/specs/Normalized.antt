@@ -28,4 +28,4 @@ pub record Parses (area : List ℕ) : Type 0 where
 -- the bytes of its pairs, every value in canonical form
 unfoldable pub normalizedBytes : Parse → List ℕ
 normalizedBytes (parsed ps) = pairsBytes (normalizePairs ps)
-normalizedBytes (faulty e) = []
+normalizedBytes (faulty f at) = []

@@ -1,3 +1,3 @@
-pub mod AreaBack
+pub mod CommonLaws
 pub mod CallLaws
 pub mod CodeLaws

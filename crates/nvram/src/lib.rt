@@ -7,16 +7,15 @@ use variables::Counted;
 use variables::Edited;
 use variables::ReadAnswer;
 ghost use mathlib.Core.Path.{_≡_};
-ghost use Prim.Native.Nat.{_+_, _<_, _^_};
-ghost use Rattle.errors.specs.Errors.{offsetOf};
-ghost use Rattle.partitions.specs.Find.{findOf};
-ghost use Rattle.variables.specs.Calls as Calls;
 ghost use mathlib.Core.List.{[]};
-ghost use Rattle.names.specs.Name.{goodName};
-ghost use Rattle.variables.specs.Places.{editReply};
-ghost use Rattle.nvram.specs.Common.{common};
-ghost use Rattle.nvram.specs.Calls.{moved, areaSpan, countAnswer, readAnswer, editAnswer, replyOffset, nameFirst, callImage};
-ghost use Rattle.nvram.specs.Calls.{answer as answerAt};
+ghost use Prim.Native.Nat.{_+_, _<_, _^_};
+ghost use Rattle.errors.specs.Errors.{offsetOf, moved};
+ghost use Rattle.names.specs.Name.{nameCheck};
+ghost use Rattle.variables.specs.Calls as Calls;
+ghost use Rattle.variables.specs.Places.{editReply, replyOffset};
+ghost use Rattle.nvram.specs.Common.{commonOf};
+ghost use Rattle.nvram.specs.Calls.{countTold, readTold, editTold, toldAt, callImage};
+ghost use Rattle.nvram.specs.Helpers.{areaSpan, nameFirst};
 
 // Checks an image: the number of partitions that cover it, or why it is refused.
 pub use partitions::check;
@@ -41,7 +40,7 @@ enum Span {
 
 // Where the variable area stands: in the first partition `common`.
 fn common_area(image: &[u8]) -> Span
-    ensures { λ r. ⌜ r ≡ areaSpan (findOf (now (image .entry)) 0x70 common) ⌝ }
+    ensures { λ r. ⌜ r ≡ areaSpan (commonOf (now (image .entry))) ⌝ }
 {
     match lookup::find(image, SIGNATURE, b"common") {
         Found::At(p) => {
@@ -62,15 +61,9 @@ fn moved_error(e: Error, by: usize) -> Error
 {
     match e {
         Error::ImageLength => Error::ImageLength,
-        Error::ZeroLength { at } => Error::ZeroLength { at },
-        Error::PastEnd { at } => Error::PastEnd { at },
-        Error::Checksum { at } => Error::Checksum { at },
-        Error::ZeroChecksum { at } => Error::ZeroChecksum { at },
+        Error::BadHeader { fault, at } => Error::BadHeader { fault, at },
         Error::NoPartition => Error::NoPartition,
-        Error::AreaEnd { at } => Error::AreaEnd { at: by + at },
-        Error::StoredName { at } => Error::StoredName { at: by + at },
-        Error::Escape { at } => Error::Escape { at: by + at },
-        Error::Repeated { at } => Error::Repeated { at: by + at },
+        Error::BadArea { fault, at } => Error::BadArea { fault, at: by + at },
         Error::BadName => Error::BadName,
         Error::NoVariable => Error::NoVariable,
         Error::NoRoom => Error::NoRoom,
@@ -81,7 +74,7 @@ fn moved_error(e: Error, by: usize) -> Error
 // An edit's answer, with its offset in an image whose variable area begins at `by`.
 fn moved_edit(answer: Edited, by: usize) -> Edited
     requires { ⌜ by + replyOffset (editReply answer) < 2 ^ 64 ⌝ }
-    ensures { λ r. ⌜ editAnswer r ≡ answerAt by (editReply answer) [] ⌝ }
+    ensures { λ r. ⌜ editTold r ≡ toldAt by (editReply answer) [] ⌝ }
 {
     match answer {
         Edited::Done => Edited::Done,
@@ -91,7 +84,7 @@ fn moved_edit(answer: Edited, by: usize) -> Edited
 
 // A bad name goes before an error of the image.
 fn name_first(name: &[u8], e: Error) -> Error
-    ensures { λ r. ⌜ r ≡ nameFirst (goodName (now (name .entry))) e ⌝ }
+    ensures { λ r. ⌜ r ≡ nameFirst (nameCheck (now (name .entry))) e ⌝ }
 {
     match names::check(name) {
         NameCheck::Wrong { at: _ } => Error::BadName,
@@ -101,7 +94,7 @@ fn name_first(name: &[u8], e: Error) -> Error
 
 // The number of variables.
 pub fn count(image: &[u8]) -> Counted
-    ensures { λ r. ⌜ countAnswer r ≡ callImage Calls.count (now (image .entry)) .told ⌝ }
+    ensures { λ r. ⌜ countTold r ≡ callImage Calls.count (now (image .entry)) .told ⌝ }
 {
     match common_area(image) {
         Span::At { start, end } => match variables::count(&image[start..end]) {
@@ -114,7 +107,7 @@ pub fn count(image: &[u8]) -> Counted
 
 // Reads a variable into a buffer: the length of its value, which stands at the buffer's start.
 pub fn read(image: &[u8], name: &[u8], buffer: &mut [u8]) -> ReadAnswer
-    ensures { λ r. ⌜ readAnswer r (now (buffer .exit)) ≡ callImage (Calls.read (now (name .entry)) (now (buffer .entry))) (now (image .entry)) .told ⌝ }
+    ensures { λ r. ⌜ readTold r (now (buffer .exit)) ≡ callImage (Calls.read (now (name .entry)) (now (buffer .entry))) (now (image .entry)) .told ⌝ }
 {
     match common_area(image) {
         Span::At { start, end } => match variables::read(&image[start..end], name, buffer) {
@@ -127,7 +120,7 @@ pub fn read(image: &[u8], name: &[u8], buffer: &mut [u8]) -> ReadAnswer
 
 // Sets a variable: its pair is replaced where it stands, or added after the last.
 pub fn set(image: &mut [u8], name: &[u8], value: &[u8]) -> Edited
-    ensures { λ r. ⌜ editAnswer r ≡ callImage (Calls.set (now (name .entry)) (now (value .entry))) (now (image .entry)) .told ⌝ }
+    ensures { λ r. ⌜ editTold r ≡ callImage (Calls.set (now (name .entry)) (now (value .entry))) (now (image .entry)) .told ⌝ }
     ensures { λ _. ⌜ now (image .exit) ≡ callImage (Calls.set (now (name .entry)) (now (value .entry))) (now (image .entry)) .image ⌝ }
 {
     match common_area(image) {
@@ -141,7 +134,7 @@ pub fn set(image: &mut [u8], name: &[u8], value: &[u8]) -> Edited
 
 // Removes a variable: its pair is taken out, and the pairs after it close up.
 pub fn remove(image: &mut [u8], name: &[u8]) -> Edited
-    ensures { λ r. ⌜ editAnswer r ≡ callImage (Calls.remove (now (name .entry))) (now (image .entry)) .told ⌝ }
+    ensures { λ r. ⌜ editTold r ≡ callImage (Calls.remove (now (name .entry))) (now (image .entry)) .told ⌝ }
     ensures { λ _. ⌜ now (image .exit) ≡ callImage (Calls.remove (now (name .entry))) (now (image .entry)) .image ⌝ }
 {
     match common_area(image) {
@@ -155,7 +148,7 @@ pub fn remove(image: &mut [u8], name: &[u8]) -> Edited
 
 // Makes every value canonical, and zeroes what follows the pairs.
 pub fn normalize(image: &mut [u8]) -> Edited
-    ensures { λ r. ⌜ editAnswer r ≡ callImage Calls.normalize (now (image .entry)) .told ⌝ }
+    ensures { λ r. ⌜ editTold r ≡ callImage Calls.normalize (now (image .entry)) .told ⌝ }
     ensures { λ _. ⌜ now (image .exit) ≡ callImage Calls.normalize (now (image .entry)) .image ⌝ }
 {
     match common_area(image) {

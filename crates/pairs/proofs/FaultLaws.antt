@@ -8,9 +8,8 @@ use native.Mathlib.Omega.{arith}
 use lib.ListN.{length, length-append}
 use Rattle.lists.specs.Bytes.{AllBytes, sameBytes}
 use Rattle.lists.proofs.Tests.{split, clash}
-use Rattle.errors.specs.declared.Error.{Error}
-use Rattle.errors.specs.declared.Error.the-variants.{AreaEnd, StoredName, Escape, Repeated}
-use Rattle.errors.specs.Errors.{offsetOf}
+use Rattle.errors.specs.declared.AreaFault.{AreaFault}
+use Rattle.errors.specs.declared.AreaFault.the-variants.{AreaEnd, StoredName, Escape, Repeated}
 use Rattle.names.specs.Rules.{NameRule}
 use Rattle.values.specs.Value.{spelled, decode}
 use Rattle.values.specs.Rules.{Spells}
@@ -68,28 +67,28 @@ seen-exactly x ps = (
 -- ---- from the rules to the parse
 
 -- past good pairs the parse comes to what follows them
-pub past-pairs : {seen : List (List ℕ)} {ps : List Pair} (at past : ℕ) (rest : List ℕ) (e : Error) → Good seen ps
-    → parseRest (seenAfter seen ps) (at + length (pairsBytes ps)) past rest ≡ faulty e → parseRest seen at past (pairsBytes ps ++ rest) ≡ faulty e
+pub past-pairs : {seen : List (List ℕ)} {ps : List Pair} (at past : ℕ) (rest : List ℕ) (f : AreaFault) (k : ℕ) → Good seen ps
+    → parseRest (seenAfter seen ps) (at + length (pairsBytes ps)) past rest ≡ faulty f k → parseRest seen at past (pairsBytes ps ++ rest) ≡ faulty f k
 unfolding pairsBytes
-past-pairs at past rest e (none {seen = seen}) h =
+past-pairs at past rest f k (none {seen = seen}) h =
     let q : at ≡ at + 0 = omega arith in
     ap (λ (a : ℕ). parseRest seen a past rest) q ∙ h
-past-pairs at past rest e (more {seen = seen} {p = p} {ps = ps} n v s g) h =
+past-pairs at past rest f k (more {seen = seen} {p = p} {ps = ps} n v s g) h =
     let next : ℕ = at + length (p .name) + length (p .stored) + 2 in
     let q : next + length (pairsBytes ps) ≡ at + length (pairsBytes (p ∷ ps)) = omega (arith, length-pairs p ps) in
     ap (parseRest seen at past) (pair-front p ps rest) ∙ parse-pair seen at past (p .stored) (pairsBytes ps ++ rest) n v s
     ∙ ap (firstPair p)
-    (past-pairs next past rest e g (ap (λ (a : ℕ). parseRest (seenAfter (p .name ∷ seen) ps) a past rest) q ∙ h))
+    (past-pairs next past rest f k g (ap (λ (a : ℕ). parseRest (seenAfter (p .name ∷ seen) ps) a past rest) q ∙ h))
 
 module _ (past : ℕ) (es : List Entry) (seen : List (List ℕ)) where
-  cut-parses : {rest : List ℕ} → CutOff rest → parseRest seen (sizes es) past rest ≡ faulty (AreaEnd past)
+  cut-parses : {rest : List ℕ} → CutOff rest → parseRest seen (sizes es) past rest ≡ faulty AreaEnd past
   cut-parses (in-name a h) = parse-standing seen (sizes es) past (cut-name a h)
   cut-parses (in-value {stored = stored} n v) = parse-standing seen (sizes es) past (cut-value stored n (spells-spelled v))
   cut-parses (in-escape {stored = stored} n v) = parse-standing seen (sizes es) past (cut-escape stored n (spells-spelled v))
 
   -- a fault by the rules is what the parse answers
-  fault-parses : {rest : List ℕ} {e : Error} → ((x : List ℕ) → In x es → stands x seen ≡ true) → FaultAt past es rest e
-      → parseRest seen (sizes es) past rest ≡ faulty e
+  fault-parses : {rest : List ℕ} {f : AreaFault} {at : ℕ} → ((x : List ℕ) → In x es → stands x seen ≡ true) → FaultAt past es rest f at
+      → parseRest seen (sizes es) past rest ≡ faulty f at
   fault-parses k (seven c) = cut-parses c
   fault-parses k (eight rest a h w z) = parse-standing seen (sizes es) past (a-wrong-name rest a h w z)
   fault-parses k (nine {stored = stored} rest n v w) = parse-standing seen (sizes es) past (a-wrong-escape stored rest n (spells-spelled v) w)
@@ -97,45 +96,46 @@ module _ (past : ℕ) (es : List Entry) (seen : List (List ℕ)) where
       let t : stands name seen ≡ true = k name i in
       parse-standing seen (sizes es) past (a-pair rest n (spells-spelled v)) ∙ rw t
 
-faulty-parses : (area : List ℕ) (e : Error) → Faulty area e → parse area ≡ faulty e
-faulty-parses area e f =
+faulty-parses : (area : List ℕ) (fault : AreaFault) (at : ℕ) → Faulty area fault at → parse area ≡ faulty fault at
+faulty-parses area fault at f =
     let k = pairs-of (f .pairs) in
     let ps = k .list in
     let z : sizes (f .before) ≡ 0 + length (pairsBytes ps) = ap sizes (sym (k .entries)) ∙ omega (arith, sizes-pairs ps) in
     let h = fault-parses (length area) (f .before) (seenAfter [] ps) (λ x i. seen-exactly x ps .1 (rw (← k .entries) at i)) (f .fault) in
     parse-start area ∙ ap (parseRest [] 0 (length area)) (k .bytes)
-    ∙ past-pairs 0 (length area) (f .rest) e (once-good ps (k .each) (rw (← k .entries) at (f .once))) (rw z at h)
+    ∙ past-pairs 0 (length area) (f .rest) fault at (once-good ps (k .each) (rw (← k .entries) at (f .once))) (rw z at h)
 
 -- ---- from the parse to the rules
 
 -- what stops a parse at the offset at, seen are the names before
-data Stops (past at : ℕ) (seen : List (List ℕ)) : List ℕ → Error → Type 0 where
-  at-end : {rest : List ℕ} → Standing rest cut → Stops past at seen rest (AreaEnd past)
-  at-name : {rest : List ℕ} {k : ℕ} → Standing rest (wrongName k) → Stops past at seen rest (StoredName (at + k))
-  at-escape : {rest : List ℕ} {k : ℕ} → Standing rest (wrongEscape k) → Stops past at seen rest (Escape (at + k))
+data Stops (past at : ℕ) (seen : List (List ℕ)) : List ℕ → AreaFault → ℕ → Type 0 where
+  at-end : {rest : List ℕ} → Standing rest cut → Stops past at seen rest AreaEnd past
+  at-name : {rest : List ℕ} {k : ℕ} → Standing rest (wrongName k) → Stops past at seen rest StoredName (at + k)
+  at-escape : {rest : List ℕ} {k : ℕ} → Standing rest (wrongEscape k) → Stops past at seen rest Escape (at + k)
   at-pair : {name : List ℕ} (stored rest : List ℕ) → NameRule name → spelled stored ≡ true → stands name seen ≡ true
-      → Stops past at seen (name ++ 0x3D ∷ (stored ++ 0x00 ∷ rest)) (Repeated at)
+      → Stops past at seen (name ++ 0x3D ∷ (stored ++ 0x00 ∷ rest)) Repeated at
 
 -- good pairs, and then what stops the parse
-record Stopped (past : ℕ) (seen : List (List ℕ)) (at : ℕ) (s : List ℕ) (e : Error) : Type 0 where
+record Stopped (past : ℕ) (seen : List (List ℕ)) (at : ℕ) (s : List ℕ) (f : AreaFault) (k : ℕ) : Type 0 where
   list : List Pair
   rest : List ℕ
   place : ℕ
   bytes : s ≡ pairsBytes list ++ rest
   good : Good seen list
   offset : place ≡ at + length (pairsBytes list)
-  fault : Stops past place (seenAfter seen list) rest e
+  fault : Stops past place (seenAfter seen list) rest f k
 
 module _ (past : ℕ) (seen : List (List ℕ)) (at : ℕ) where
-  stopped-here : {s : List ℕ} {d e : Error} → faulty d ≡ faulty e → Stops past at seen s d → Stopped past seen at s e
+  stopped-here : {s : List ℕ} {f g : AreaFault} {j k : ℕ} → faulty f j ≡ faulty g k → Stops past at seen s f j → Stopped past seen at s g k
   unfolding pairsBytes
-  stopped-here {s} {d} {e} q f =
-      let k : d ≡ e = cc in
-      record { list = []; rest = s; place = at; bytes = refl; good = none; offset = omega arith; fault = rw k at f }
+  stopped-here {s} {f} {g} {j} {k} q x =
+      let e : f ≡ g = cc in
+      let p : j ≡ k = cc in
+      record { list = []; rest = s; place = at; bytes = refl; good = none; offset = omega arith; fault = rw (e, p) at x }
 
-  stopped-later : (name stored rest : List ℕ) (e : Error) → NameRule name → spelled stored ≡ true → stands name seen ≡ false
-      → Stopped past (name ∷ seen) (at + length name + length stored + 2) rest e → Stopped past seen at (name ++ 0x3D ∷ (stored ++ 0x00 ∷ rest)) e
-  stopped-later name stored rest e n v s f =
+  stopped-later : (name stored rest : List ℕ) (g : AreaFault) (k : ℕ) → NameRule name → spelled stored ≡ true → stands name seen ≡ false
+      → Stopped past (name ∷ seen) (at + length name + length stored + 2) rest g k → Stopped past seen at (name ++ 0x3D ∷ (stored ++ 0x00 ∷ rest)) g k
+  stopped-later name stored rest g k n v s f =
       let p : Pair = pairOf name stored in
       record {
         list = p ∷ f .list;
@@ -147,27 +147,28 @@ module _ (past : ℕ) (seen : List (List ℕ)) (at : ℕ) where
         fault = f .fault;
       }
 
-  stopped-on : {s : List ℕ} {x : Stand} (e : Error) (go : List (List ℕ) → ℕ → List ℕ → Parse) → Standing s x → onStand x seen at past go ≡ faulty e
-      → ((m : List (List ℕ)) (a : ℕ) (r : List ℕ) → length r < length s → go m a r ≡ faulty e → Stopped past m a r e) → Stopped past seen at s e
-  stopped-on e go (a-pair {name = name} {stored = stored} rest n v) q k =
+  stopped-on : {s : List ℕ} {x : Stand} (f : AreaFault) (j : ℕ) (go : List (List ℕ) → ℕ → List ℕ → Parse) → Standing s x
+      → onStand x seen at past go ≡ faulty f j
+      → ((m : List (List ℕ)) (a : ℕ) (r : List ℕ) → length r < length s → go m a r ≡ faulty f j → Stopped past m a r f j) → Stopped past seen at s f j
+  stopped-on f j go (a-pair {name = name} {stored = stored} rest n v) q k =
       split (stands name seen)
       (λ t. stopped-here (rw t at q) (at-pair stored rest n v t))
-      (λ t. stopped-later name stored rest e n v t
+      (λ t. stopped-later name stored rest f j n v t
       (k (name ∷ seen) (at + length name + length stored + 2) rest (omega (arith, length-whole name stored rest))
-      (first-faulty (pairOf name stored) (go (name ∷ seen) (at + length name + length stored + 2) rest) e (rw t at q))))
-  stopped-on e go (the-end rest) q k = clash (cc)
-  stopped-on e go (cut-name a h) q k = stopped-here q (at-end (cut-name a h))
-  stopped-on e go (cut-value stored n v) q k = stopped-here q (at-end (cut-value stored n v))
-  stopped-on e go (cut-escape stored n v) q k = stopped-here q (at-end (cut-escape stored n v))
-  stopped-on e go (a-wrong-name rest a h w z) q k = stopped-here q (at-name (a-wrong-name rest a h w z))
-  stopped-on e go (a-wrong-escape stored rest n v w) q k = stopped-here q (at-escape (a-wrong-escape stored rest n v w))
+      (first-faulty (pairOf name stored) (go (name ∷ seen) (at + length name + length stored + 2) rest) f j (rw t at q))))
+  stopped-on f j go (the-end rest) q k = clash (cc)
+  stopped-on f j go (cut-name a h) q k = stopped-here q (at-end (cut-name a h))
+  stopped-on f j go (cut-value stored n v) q k = stopped-here q (at-end (cut-value stored n v))
+  stopped-on f j go (cut-escape stored n v) q k = stopped-here q (at-end (cut-escape stored n v))
+  stopped-on f j go (a-wrong-name rest a h w z) q k = stopped-here q (at-name (a-wrong-name rest a h w z))
+  stopped-on f j go (a-wrong-escape stored rest n v w) q k = stopped-here q (at-escape (a-wrong-escape stored rest n v w))
 
-stopped : (fuel : ℕ) (seen : List (List ℕ)) (at past : ℕ) (s : List ℕ) (e : Error) → length s < fuel → parseFrom fuel seen at past s ≡ faulty e
-    → Stopped past seen at s e
+stopped : (fuel : ℕ) (seen : List (List ℕ)) (at past : ℕ) (s : List ℕ) (f : AreaFault) (k : ℕ) → length s < fuel
+    → parseFrom fuel seen at past s ≡ faulty f k → Stopped past seen at s f k
 unfolding parseFrom
-stopped zero seen at past s e h q = absurd (omega arith)
-stopped (suc fuel) seen at past s e h q =
-    stopped-on past seen at e (λ m a r. parseFrom fuel m a past r) (standing s) q (λ m a r l f. stopped fuel m a past r e (omega arith) f)
+stopped zero seen at past s f k h q = absurd (omega arith)
+stopped (suc fuel) seen at past s f k h q =
+    stopped-on past seen at f k (λ m a r. parseFrom fuel m a past r) (standing s) q (λ m a r l e. stopped fuel m a past r f k (omega arith) e)
 
 -- ---- bytes that are spelled stand for a value
 
@@ -186,24 +187,24 @@ standing-cut-off b (cut-value {name = name} stored n v) = in-value n (spelled-sp
 standing-cut-off b (cut-escape {name = name} stored n v) = in-escape n (spelled-spells (bytes-first name stored (0xFF ∷ []) b) v)
 
 module _ {past : ℕ} (es : List Entry) where
-  name-fault : {rest : List ℕ} {k : ℕ} → Standing rest (wrongName k) → FaultAt past es rest (StoredName (sizes es + k))
+  name-fault : {rest : List ℕ} {k : ℕ} → Standing rest (wrongName k) → FaultAt past es rest StoredName (sizes es + k)
   name-fault (a-wrong-name rest a h w z) = eight rest a h w z
 
-  escape-fault : {rest : List ℕ} {k : ℕ} → AllBytes rest → Standing rest (wrongEscape k) → FaultAt past es rest (Escape (sizes es + k))
+  escape-fault : {rest : List ℕ} {k : ℕ} → AllBytes rest → Standing rest (wrongEscape k) → FaultAt past es rest Escape (sizes es + k)
   escape-fault b (a-wrong-escape {c = c} {name = name} stored rest n v w) =
       nine rest n (spelled-spells (bytes-first name stored (0xFF ∷ c ∷ rest) b) v) w
 
-  stops-fault : {seen : List (List ℕ)} {rest : List ℕ} {e : Error} → AllBytes rest → ((x : List ℕ) → stands x seen ≡ true → In x es)
-      → Stops past (sizes es) seen rest e → FaultAt past es rest e
+  stops-fault : {seen : List (List ℕ)} {rest : List ℕ} {f : AreaFault} {at : ℕ} → AllBytes rest → ((x : List ℕ) → stands x seen ≡ true → In x es)
+      → Stops past (sizes es) seen rest f at → FaultAt past es rest f at
   stops-fault b k (at-end s) = seven (standing-cut-off b s)
   stops-fault b k (at-name s) = name-fault s
   stops-fault b k (at-escape s) = escape-fault b s
   stops-fault b k (at-pair {name = name} stored rest n v t) = ten rest n (spelled-spells (bytes-first name stored (0x00 ∷ rest) b) v) (k name t)
 
-parses-faulty : (area : List ℕ) (e : Error) → AllBytes area → parse area ≡ faulty e → Faulty area e
+parses-faulty : (area : List ℕ) (fault : AreaFault) (at : ℕ) → AllBytes area → parse area ≡ faulty fault at → Faulty area fault at
 unfolding parse
-parses-faulty area e b q =
-    let f = stopped (suc (length area)) [] 0 (length area) area e (omega arith) q in
+parses-faulty area fault at b q =
+    let f = stopped (suc (length area)) [] 0 (length area) area fault at (omega arith) q in
     let ps = f .list in
     let c = rw (f .bytes) at b in
     let z : f .place ≡ sizes (entriesOf ps) = f .offset ∙ omega (arith, sizes-pairs ps) in
@@ -217,8 +218,8 @@ parses-faulty area e b q =
     }
 
 -- A PARSE IS FAULTY exactly as the rules say
-pub faulty-exactly : (area : List ℕ) (e : Error) → AllBytes area → (parse area ≡ faulty e) ↔ Faulty area e
-faulty-exactly area e b = (parses-faulty area e b, faulty-parses area e)
+pub faulty-exactly : (area : List ℕ) (f : AreaFault) (at : ℕ) → AllBytes area → (parse area ≡ faulty f at) ↔ Faulty area f at
+faulty-exactly area f at b = (parses-faulty area f at b, faulty-parses area f at)
 
 -- ---- a fault's offset stands in the area
 
@@ -229,15 +230,15 @@ escape-inside : {rest : List ℕ} {k : ℕ} → Standing rest (wrongEscape k) �
 escape-inside (a-wrong-escape {c = c} {name = name} stored rest n v w) =
     omega (arith, length-append name (0x3D ∷ (stored ++ 0xFF ∷ c ∷ rest)), length-append stored (0xFF ∷ c ∷ rest))
 
-stops-inside : {past at : ℕ} {seen : List (List ℕ)} {rest : List ℕ} {e : Error} → at + length rest ≤ past → Stops past at seen rest e → offsetOf e ≤ past
+stops-inside : {past at k : ℕ} {seen : List (List ℕ)} {rest : List ℕ} {f : AreaFault} → at + length rest ≤ past → Stops past at seen rest f k → k ≤ past
 stops-inside h (at-end s) = omega arith
 stops-inside h (at-name s) = omega (arith, name-inside s)
 stops-inside h (at-escape s) = omega (arith, escape-inside s)
 stops-inside h (at-pair stored rest n v t) = omega arith
 
-pub fault-inside : (area : List ℕ) (e : Error) → parse area ≡ faulty e → offsetOf e ≤ length area
+pub fault-inside : (area : List ℕ) (fault : AreaFault) (at : ℕ) → parse area ≡ faulty fault at → at ≤ length area
 unfolding parse
-fault-inside area e q =
-    let f = stopped (suc (length area)) [] 0 (length area) area e (omega arith) q in
+fault-inside area fault at q =
+    let f = stopped (suc (length area)) [] 0 (length area) area fault at (omega arith) q in
     let l : length area ≡ length (pairsBytes (f .list)) + length (f .rest) = ap length (f .bytes) ∙ length-append (pairsBytes (f .list)) (f .rest) in
     stops-inside (omega (arith, l, f .offset)) (f .fault)

@@ -8,7 +8,7 @@ use lib.Dec.{eqb}
 use lib.ListN.{length, take, drop, length-append}
 use Rattle.lists.specs.Bytes.{Every}
 use Rattle.lists.proofs.Tests.{split, clash}
-use Rattle.errors.specs.declared.Error.the-variants.{AreaEnd, StoredName, Escape, Repeated}
+use Rattle.errors.specs.declared.AreaFault.the-variants.{AreaEnd, StoredName, Escape, Repeated}
 use Rattle.repeats.specs.declared.Repeat.{Repeat}
 use Rattle.repeats.specs.declared.Repeat.the-variants.{At, None}
 use Rattle.repeats.specs.Pieces.{stands, endsName, nameOf, nameAt, startsFrom, starts, repeatIn, firstRepeat}
@@ -115,24 +115,24 @@ first-repeat-pairs {ps} c = repeat-pairs (pairsBytes ps) 0 [] c refl
 -- ---- the parse of pairs and what follows them
 
 abbrev joinParse : Repeat → Parse → Parse
-joinParse (At at) out = faulty (Repeated at)
+joinParse (At at) out = faulty Repeated at
 joinParse None out = out
 
 abbrev prefixed : List Pair → Parse → Parse
 prefixed ps (parsed qs) = parsed (ps ++ qs)
-prefixed ps (faulty e) = faulty e
+prefixed ps (faulty f at) = faulty f at
 
 prefixed-none : (t : Parse) → t ≡ prefixed [] t
 prefixed-none (parsed qs) = refl
-prefixed-none (faulty e) = refl
+prefixed-none (faulty f at) = refl
 
 first-prefixed : (p : Pair) (ps : List Pair) (r : Repeat) (t : Parse) → firstPair p (joinParse r (prefixed ps t)) ≡ joinParse r (prefixed (p ∷ ps) t)
 first-prefixed p ps (At at) t = refl
 first-prefixed p ps None (parsed qs) = refl
-first-prefixed p ps None (faulty e) = refl
+first-prefixed p ps None (faulty f at) = refl
 
 parse-hit : (n : ℕ) (seen : List (List ℕ)) (at past : ℕ) (l name stored next : List ℕ) → standAt l ≡ pair name stored next → stands name seen ≡ true
-    → parseFrom (suc n) seen at past l ≡ faulty (Repeated at)
+    → parseFrom (suc n) seen at past l ≡ faulty Repeated at
 unfolding parseFrom
 parse-hit n seen at past l name stored next e t = rw (e, t)
 
@@ -170,9 +170,9 @@ parse-run (more {name} {stored} {l} {next} {ps = ps} s r) t (suc n) seen at last
 abbrev tailParse : ℕ → PairAt → Parse
 tailParse past (PairAt.Pair q e) = parsed []
 tailParse past PairAt.End = parsed []
-tailParse past PairAt.Cut = faulty (AreaEnd past)
-tailParse past (PairAt.WrongName k) = faulty (StoredName k)
-tailParse past (PairAt.WrongEscape k) = faulty (Escape k)
+tailParse past PairAt.Cut = faulty AreaEnd past
+tailParse past (PairAt.WrongName k) = faulty StoredName k
+tailParse past (PairAt.WrongEscape k) = faulty Escape k
 
 tail-is : (at past : ℕ) (go : List (List ℕ) → ℕ → List ℕ → Parse) (seen : List (List ℕ)) (s : Stand)
     → ((q e : ℕ) → placeOf at s ≡ PairAt.Pair q e → ⊥) → onStand s seen at past go ≡ tailParse past (placeOf at s)

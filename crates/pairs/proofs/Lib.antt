@@ -1,3 +1,4 @@
+pub mod NameScans
 pub mod ScanLaws
 pub mod ParseLaws
 pub mod StandsLaws

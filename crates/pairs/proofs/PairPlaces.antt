@@ -7,7 +7,7 @@ use native.Mathlib.Omega.{arith}
 use lib.Dec.{ltb, eqb}
 use lib.ListN.{length, getD, drop, length-append, length-drop, drop-of-length-le}
 use lib.Seq.{drop-drop, drop-append-add}
-use borrow.Author.Tests.{eq-eqb, ne-eqb, eqb-true}
+use borrow.Author.Tests.{eq-eqb, eqb-true, eqb-false}
 use Rattle.lists.specs.Bytes.{Every}
 use Rattle.lists.proofs.Tests.{split, clash, and-true}
 use Rattle.names.specs.Name.{nameByte}
@@ -17,9 +17,10 @@ use Rattle.pairs.specs.declared.ScanEnd.{ScanEnd}
 use Rattle.pairs.specs.declared.ScanEnd.the-variants.{At, Wrong, Cut}
 use Rattle.pairs.specs.declared.PairAt.{PairAt}
 use Rattle.pairs.specs.declared.PairAt.the-variants as PairAt
-use Rattle.pairs.specs.Scan.{Scan, ends, bad, short, scanName, scanValue, Stand, pair, finish, cut, wrongName, wrongEscape, onValue, onName, standAt}
-use Rattle.pairs.specs.Places.{endOf, placeOf}
-use Rattle.pairs.proofs.ScanLaws.{and-ends}
+use Rattle.pairs.specs.Scan.{Scan, ends, bad, short, scanValue, Stand, pair, finish, cut, wrongName, wrongEscape, onValue, onName, standAt}
+use Rattle.pairs.specs.Places.{scanNameFrom, endOf, placeOf}
+use Rattle.pairs.proofs.NameScans.{and-ends}
+use Rattle.pairs.proofs.ScanLaws.{stand-begun}
 
 -- a scan takes bytes of a kind off a list, up to the byte that ends them
 pub record Taken (stop : ℕ) (P : ℕ → Type 0) (l taken rest : List ℕ) : Type 0 where
@@ -56,18 +57,18 @@ Goes b = endsName b ≡ false
 abbrev pub NotZero : ℕ → Type 0
 NotZero b = eqb b 0 ≡ false
 
-pub name-taken : (k : ℕ) (l name rest : List ℕ) → scanName k l ≡ ends name rest → Taken 0x3D Goes l name rest
-unfolding scanName
+pub name-taken : (k : ℕ) (l name rest : List ℕ) → scanNameFrom k l ≡ ends name rest → Taken 0x3D Goes l name rest
+unfolding scanNameFrom
 name-taken k [] name rest e = clash cc
 name-taken k (b ∷ bs) name rest e = split (eqb b 0x3D)
     (λ t. split (eqb k 0)
-    (λ u. let f : bad 0 ≡ ends name rest = rw (t, u, scanName) at e in clash cc)
-    (λ u. taken-none 0x3D Goes b bs name rest (eqb-true b 0x3D t) (rw (t, u, scanName) at e)))
+    (λ u. let f : bad 0 ≡ ends name rest = rw (t, u, scanNameFrom) at e in clash cc)
+    (λ u. taken-none 0x3D Goes b bs name rest (eqb-true b 0x3D t) (rw (t, u, scanNameFrom) at e)))
     (λ t. split (nameByte b && ltb k 31)
     (λ u.
-    let g = and-ends b (scanName (k + 1) bs) name rest (rw (t, u, scanName) at e) in
+    let g = and-ends b (scanNameFrom (k + 1) bs) name rest (rw (t, u, scanNameFrom) at e) in
     taken-more b name (name-goes b t (and-true (nameByte b) (ltb k 31) u .0)) (g .1) (name-taken (k + 1) bs (g .0) rest (g .2)))
-    (λ u. let f : bad k ≡ ends name rest = rw (t, u, scanName) at e in clash cc))
+    (λ u. let f : bad k ≡ ends name rest = rw (t, u, scanNameFrom) at e in clash cc))
 
 or-first : (a b : Bool) → (a || b) ≡ false → a ≡ false
 or-first true b e = e
@@ -109,7 +110,7 @@ by-value l n after name stored rest t (ends s r) q e =
       stored-clean = subst (Every NotZero) g (v .clean);
     }
 
-by-name : (l name stored rest : List ℕ) → (s : Scan) → scanName 0 l ≡ s → onName s ≡ pair name stored rest → PairHere l name stored rest
+by-name : (l name stored rest : List ℕ) → (s : Scan) → scanNameFrom 0 l ≡ s → onName s ≡ pair name stored rest → PairHere l name stored rest
 by-name l name stored rest short q e = clash cc
 by-name l name stored rest (bad k) q e = clash cc
 by-name l name stored rest (ends n after) q e = by-value l n after name stored rest (name-taken 0 l n after q) (scanValue false 0 after) refl e
@@ -119,13 +120,13 @@ unfolding standAt
 pair-here [] name stored rest e = clash cc
 pair-here (b ∷ bs) name stored rest e = split (eqb b 0x00)
     (λ t. let f : finish ≡ pair name stored rest = rw (t, standAt) at e in clash cc)
-    (λ t. by-name (b ∷ bs) name stored rest (scanName 0 (b ∷ bs)) refl (rw (t, standAt) at e))
+    (λ t. by-name (b ∷ bs) name stored rest (scanNameFrom 0 (b ∷ bs)) refl (sym (stand-begun (b ∷ bs) (eqb-false b 0x00 t)) ∙ e))
 
 -- the name of what begins at `at` ends at n
 pub record NameEnd (area : List ℕ) (at n : ℕ) : Type 0 where
   pub name : List ℕ
   pub after : List ℕ
-  pub scan : scanName 0 (drop at area) ≡ ends name after
+  pub scan : scanNameFrom 0 (drop at area) ≡ ends name after
   pub equals : n ≡ at + length name
   pub follows : after ≡ drop (n + 1) area
   pub inside : n < length area
@@ -138,11 +139,11 @@ drop-past area at n w x rest e h =
 pub past-inside : (area : List ℕ) (at n : ℕ) (w : List ℕ) (x : ℕ) (rest : List ℕ) → drop at area ≡ w ++ x ∷ rest → n ≡ at + length w → n < length area
 past-inside area at n w x rest e h = omega (arith, length-drop at area, ap length e, length-append w (x ∷ rest))
 
-pub name-end : (area : List ℕ) (at n : ℕ) → At n ≡ endOf at at (scanName 0 (drop at area)) → NameEnd area at n
+pub name-end : (area : List ℕ) (at n : ℕ) → At n ≡ endOf at at (scanNameFrom 0 (drop at area)) → NameEnd area at n
 unfolding endOf
-name-end area at n e = go (scanName 0 (drop at area)) refl e
+name-end area at n e = go (scanNameFrom 0 (drop at area)) refl e
   where
-    go : (s : Scan) → scanName 0 (drop at area) ≡ s → At n ≡ endOf at at s → NameEnd area at n
+    go : (s : Scan) → scanNameFrom 0 (drop at area) ≡ s → At n ≡ endOf at at s → NameEnd area at n
     go short q e = clash cc
     go (bad k) q e = clash cc
     go (ends name after) q e =
@@ -179,22 +180,21 @@ module _ (area : List ℕ) (at : ℕ) (h : at < length area) where
   stand-end e = rw (drop-next area at h, eq-eqb (getD area at 0) 0 e, standAt)
 
   module _ (b : getD area at 0 ≡ 0 → ⊥) where
-    stand-name : standAt (drop at area) ≡ onName (scanName 0 (drop at area))
-    unfolding standAt
-    stand-name = rw (drop-next area at h, ne-eqb (getD area at 0) 0 b, standAt)
+    stand-name : standAt (drop at area) ≡ onName (scanNameFrom 0 (drop at area))
+    stand-name = rw (drop-next area at h) (stand-begun (getD area at 0 ∷ drop (at + 1) area) b)
 
-    pub stand-cut : Cut ≡ endOf at at (scanName 0 (drop at area)) → PairAt.Cut ≡ placeOf at (standAt (drop at area))
+    pub stand-cut : Cut ≡ endOf at at (scanNameFrom 0 (drop at area)) → PairAt.Cut ≡ placeOf at (standAt (drop at area))
     unfolding endOf placeOf
-    stand-cut e = rw stand-name (go (scanName 0 (drop at area)) e)
+    stand-cut e = rw stand-name (go (scanNameFrom 0 (drop at area)) e)
       where
         go : (s : Scan) → Cut ≡ endOf at at s → PairAt.Cut ≡ placeOf at (onName s)
         go short e = refl
         go (bad k) e = clash cc
         go (ends name after) e = clash cc
 
-    pub stand-wrong : (k : ℕ) → Wrong k ≡ endOf at at (scanName 0 (drop at area)) → PairAt.WrongName k ≡ placeOf at (standAt (drop at area))
+    pub stand-wrong : (k : ℕ) → Wrong k ≡ endOf at at (scanNameFrom 0 (drop at area)) → PairAt.WrongName k ≡ placeOf at (standAt (drop at area))
     unfolding endOf placeOf
-    stand-wrong k e = rw stand-name (go (scanName 0 (drop at area)) e)
+    stand-wrong k e = rw stand-name (go (scanNameFrom 0 (drop at area)) e)
       where
         go : (s : Scan) → Wrong k ≡ endOf at at s → PairAt.WrongName k ≡ placeOf at (onName s)
         go short e = clash cc

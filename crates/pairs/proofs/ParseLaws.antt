@@ -1,18 +1,18 @@
 -- Parsing and printing an area: what parses is pairs, and pairs parse.
 use Prim.Native.Nat.{ℕ, zero, suc, _+_, _≤_, _<_}
 use mathlib.Core.Path.{_≡_, refl, sym, ap, _∙_}
-use mathlib.Core.Bool.{true, false}
+use mathlib.Core.Bool.{true, false, cond}
 use mathlib.Core.List.{List, [], _∷_, _++_, append-assoc}
 use native.Mathlib.Omega.{arith}
 use lib.ListN.{length, length-append}
 use Rattle.lists.specs.Bytes.{Every, AllBytes}
 use Rattle.lists.proofs.Tests.{split, clash}
-use Rattle.errors.specs.declared.Error.{Error}
-use Rattle.errors.specs.declared.Error.the-variants.{Repeated}
+use Rattle.errors.specs.declared.AreaFault.{AreaFault}
+use Rattle.errors.specs.declared.AreaFault.the-variants.{Repeated}
 use Rattle.names.specs.Rules.{NameRule}
 use Rattle.values.specs.Value.{spelled}
 use Rattle.pairs.specs.Scan.{Stand, standAt}
-use Rattle.pairs.specs.Area.{Pair, pairOf, pairBytes, pairsBytes, stands, Parse, parsed, faulty, firstPair, pickParse, onStand, parseFrom, parse}
+use Rattle.pairs.specs.Area.{Pair, pairOf, pairBytes, pairsBytes, stands, Parse, parsed, faulty, firstPair, onStand, parseFrom, parse}
 use Rattle.pairs.proofs.ScanLaws.{Standing, a-pair, the-end, cut-name, cut-value, cut-escape, a-wrong-name, a-wrong-escape, standing, standing-stand}
 
 -- pairs as they may stand after the names that were seen
@@ -34,6 +34,11 @@ pub length-pairs : (p : Pair) (ps : List Pair) → length (pairsBytes (p ∷ ps)
 unfolding pairsBytes
 length-pairs p ps = omega (arith, length-append (pairBytes p) (pairsBytes ps), length-pair p)
 
+-- no pairs have no bytes
+pub pairs-none : pairsBytes [] ≡ []
+unfolding pairsBytes
+pairs-none = refl
+
 -- the first pair of a list, and what follows it
 pub pair-front : (p : Pair) (ps : List Pair) (r : List ℕ) → pairsBytes (p ∷ ps) ++ r ≡ p .name ++ 0x3D ∷ (p .stored ++ 0x00 ∷ (pairsBytes ps ++ r))
 unfolding pairsBytes pairBytes
@@ -45,7 +50,7 @@ module _ (seen : List (List ℕ)) (at past : ℕ) where
   on-same : {rest : List ℕ} {x : Stand} (f g : List (List ℕ) → ℕ → List ℕ → Parse) → Standing rest x
       → ((s : List (List ℕ)) (a : ℕ) (r : List ℕ) → length r < length rest → f s a r ≡ g s a r) → onStand x seen at past f ≡ onStand x seen at past g
   on-same f g (a-pair {name = name} {stored = stored} rest r v) h = λ i.
-      pickParse (stands name seen) (faulty (Repeated at))
+      cond (stands name seen) (faulty Repeated at)
       (firstPair (pairOf name stored) (h (name ∷ seen) (at + length name + length stored + 2) rest (omega (arith, length-whole name stored rest)) i))
   on-same f g (the-end rest) h = refl
   on-same f g (cut-name a l) h = refl
@@ -121,11 +126,11 @@ Read area ps = ReadFrom [] area ps
 
 pub first-parsed : (p : Pair) (x : Parse) (ps : List Pair) → firstPair p x ≡ parsed ps → (qs : List Pair) × (ps ≡ p ∷ qs) × (x ≡ parsed qs)
 first-parsed p (parsed qs) ps e = (qs, cc, refl)
-first-parsed p (faulty r) ps e = clash (cc)
+first-parsed p (faulty f at) ps e = clash (cc)
 
-pub first-faulty : (p : Pair) (x : Parse) (e : Error) → firstPair p x ≡ faulty e → x ≡ faulty e
-first-faulty p (parsed qs) e q = clash (cc)
-first-faulty p (faulty r) e q = q
+pub first-faulty : (p : Pair) (x : Parse) (f : AreaFault) (at : ℕ) → firstPair p x ≡ faulty f at → x ≡ faulty f at
+first-faulty p (parsed qs) f at q = clash (cc)
+first-faulty p (faulty g a) f at q = q
 
 read-end : (seen : List (List ℕ)) (rest : List ℕ) (ps : List Pair) → parsed [] ≡ parsed ps → ReadFrom seen (0x00 ∷ rest) ps
 unfolding pairsBytes

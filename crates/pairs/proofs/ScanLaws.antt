@@ -1,4 +1,4 @@
--- What a scan of a name and of a stored value finds, and what stands where a pair would begin: each outcome, exactly when.
+-- What a scan of a stored value finds, and what stands where a pair would begin: each outcome, exactly when.
 use Prim.Native.Nat.{ℕ, _+_, _≤_, _<_}
 use mathlib.Core.Path.{_≡_, refl, sym, ap, _∙_}
 use mathlib.Core.Bool.{Bool, true, false}
@@ -6,191 +6,16 @@ use mathlib.Core.List.{List, [], _∷_, _++_, append-nil}
 use mathlib.Core.Logic.{_≢_, _⊎_, inl, inr}
 use native.Mathlib.Omega.{arith}
 use lib.ListN.{length}
-use lib.Dec.{ltb, eqb}
-use borrow.Author.Tests.{eqb-true, eqb-false, ne-eqb, ltb-true, ltb-false, lt-ltb, le-ltb}
+use lib.Dec.{eqb}
+use borrow.Author.Tests.{eqb-true, eqb-false, ne-eqb}
 use Rattle.lists.specs.Bytes.{Every}
-use Rattle.lists.proofs.Tests.{split, clash, and-false}
-use Rattle.names.specs.Name.{nameByte}
+use Rattle.lists.proofs.Tests.{split, clash}
 use Rattle.names.specs.Rules.{NameByte, NameRule}
-use Rattle.names.proofs.NameLaws.{name-byte-exactly}
 use Rattle.values.specs.Value.{spelled, spelledFrom}
-use Rattle.pairs.specs.Scan.{Scan, ends, bad, short, and, scanName, scanValue, Stand, pair, finish, cut, wrongName, wrongEscape, onValue, onName, standAt}
-use Rattle.pairs.specs.Rules.{BadByte, not-allowed, equals-at-once, thirty-second}
-
--- ---- one byte more
-
-pub and-ends : (b : ℕ) (s : Scan) (bs rest : List ℕ) → and b s ≡ ends bs rest → (t : List ℕ) × (bs ≡ b ∷ t) × (s ≡ ends t rest)
-and-ends b (ends t r) bs rest e = (t, cc, cc)
-and-ends b (bad k) bs rest e = clash (cc)
-and-ends b short bs rest e = clash (cc)
-
-pub and-short : (b : ℕ) (s : Scan) → and b s ≡ short → s ≡ short
-and-short b (ends t r) e = clash (cc)
-and-short b (bad k) e = clash (cc)
-and-short b short e = refl
-
-pub and-bad : (b : ℕ) (s : Scan) (k : ℕ) → and b s ≡ bad k → s ≡ bad k
-and-bad b (ends t r) k e = clash (cc)
-and-bad b (bad j) k e = e
-and-bad b short k e = clash (cc)
-
-bad-is : {i j : ℕ} → bad i ≡ bad j → j ≡ i
-bad-is e = cc
-
--- ---- a name, byte by byte
-
-pub name-none : (k : ℕ) → scanName k [] ≡ short
-unfolding scanName
-name-none k = refl
-
-pub name-ends : (k : ℕ) (bs : List ℕ) → k ≢ 0 → scanName k (0x3D ∷ bs) ≡ ends [] bs
-unfolding scanName
-name-ends k bs h = rw (ne-eqb k 0 h)
-
-pub name-next : (k b : ℕ) (bs : List ℕ) → NameByte b → k < 31 → scanName k (b ∷ bs) ≡ and b (scanName (k + 1) bs)
-unfolding scanName
-name-next k b bs n h = rw (ne-eqb b 0x3D (n .no-equals), name-byte-exactly b .1 n, lt-ltb k 31 h, scanName)
-
-not-byte : (b : ℕ) → ¬ (NameByte b) → nameByte b ≡ false
-not-byte b q = split (nameByte b) (λ t. absurd (q (name-byte-exactly b .0 t))) (λ t. t)
-
-pub name-wrong : (k b : ℕ) (bs : List ℕ) → BadByte k b → scanName k (b ∷ bs) ≡ bad k
-unfolding scanName
-name-wrong k b bs (not-allowed z n) = rw (ne-eqb b 0x3D z, not-byte b n, scanName)
-name-wrong k b bs (equals-at-once z n) = rw (z, n)
-name-wrong k b bs (thirty-second z n) = rw (ne-eqb b 0x3D z, le-ltb k 31 (omega arith), and-false (nameByte b), scanName)
-
--- what a byte does after k bytes of a name
-pub data NameStep (k b : ℕ) : Type 0 where
-  equals : b ≡ 0x3D → k ≢ 0 → NameStep k b
-  wrong : BadByte k b → NameStep k b
-  next : NameByte b → k < 31 → NameStep k b
-
-pub name-step : (k b : ℕ) → k ≤ 31 → NameStep k b
-name-step k b h =
-    split (eqb b 0x3D)
-    (λ t. split (eqb k 0) (λ u. wrong (equals-at-once (eqb-true b 0x3D t) (eqb-true k 0 u))) (λ u. equals (eqb-true b 0x3D t) (eqb-false k 0 u)))
-    (λ t. split (nameByte b)
-    (λ u. split (ltb k 31)
-    (λ v. next (name-byte-exactly b .0 u) (ltb-true k 31 v))
-    (λ v. wrong (thirty-second (eqb-false b 0x3D t) (omega (arith, ltb-false k 31 v)))))
-    (λ u. wrong (not-allowed (eqb-false b 0x3D t) (λ n. clash (cc (name-byte-exactly b .1 n))))))
-
--- ---- a whole name, k bytes of which were read before
-
-pub scan-name-from : (k : ℕ) (name rest : List ℕ) → Every NameByte name → 1 ≤ k + length name → k + length name ≤ 31
-    → scanName k (name ++ 0x3D ∷ rest) ≡ ends name rest
-scan-name-from k [] rest a lo hi = name-ends k rest (omega arith)
-scan-name-from k (b ∷ bs) rest a lo hi =
-    name-next k b (bs ++ 0x3D ∷ rest) (a .0) (omega arith)
-    ∙ ap (and b) (scan-name-from (k + 1) bs rest (a .1) (omega arith) (omega arith))
-
--- the name that a scan found
-pub record Named (k : ℕ) (bs name rest : List ℕ) : Type 0 where
-  pub bytes : bs ≡ name ++ 0x3D ∷ rest
-  pub allowed : Every NameByte name
-  pub least : 1 ≤ k + length name
-  pub most : k + length name ≤ 31
-
--- the byte at which a scan of a name stopped
-pub record BadName (k : ℕ) (bs : List ℕ) (j : ℕ) : Type 0 where
-  pub begun : List ℕ
-  pub byte : ℕ
-  pub rest : List ℕ
-  pub bytes : bs ≡ begun ++ byte ∷ rest
-  pub allowed : Every NameByte begun
-  pub place : j ≡ k + length begun
-  pub most : j ≤ 31
-  pub why : BadByte j byte
-
--- the name that the area's end cuts off
-pub record CutName (k : ℕ) (bs : List ℕ) : Type 0 where
-  pub allowed : Every NameByte bs
-  pub most : k + length bs ≤ 31
-
-named-none : (k b : ℕ) (bs name rest : List ℕ) → k ≤ 31 → b ≡ 0x3D → k ≢ 0 → ends [] bs ≡ ends name rest → Named k (b ∷ bs) name rest
-named-none k b bs name rest h z n e =
-    let q : name ≡ [] = cc in
-    record { bytes = cc; allowed = rw q tt; least = omega arith; most = omega (arith, ap length q) }
-
-named-more : (k b : ℕ) (bs name t rest : List ℕ) → NameByte b → name ≡ b ∷ t → Named (k + 1) bs t rest → Named k (b ∷ bs) name rest
-named-more k b bs name t rest g n r =
-    record { bytes = cc (r .bytes); allowed = rw n (g, r .allowed); least = omega (arith, ap length n); most = omega (arith, ap length n, r .most) }
-
--- only a good name is found
-pub name-scan-from : (k : ℕ) (bs name rest : List ℕ) → k ≤ 31 → scanName k bs ≡ ends name rest → Named k bs name rest
-name-scan-from k [] name rest h e = clash (cc (name-none k))
-name-scan-from k (b ∷ bs) name rest h e =
-    elim (name-step k b h) [
-      | equals z n ↦ named-none k b bs name rest h z n (sym (name-ends k bs n) ∙ sym (ap (λ (x : ℕ). scanName k (x ∷ bs)) z) ∙ e)
-      | wrong w ↦ clash (cc (name-wrong k b bs w))
-      | next n l ↦
-          let a = and-ends b (scanName (k + 1) bs) name rest (sym (name-next k b bs n l) ∙ e) in
-          named-more k b bs name (a .0) rest n (a .1) (name-scan-from (k + 1) bs (a .0) rest (omega arith) (a .2))
-    ]
-
-bad-here : (k b : ℕ) (bs : List ℕ) (j : ℕ) → k ≤ 31 → BadByte k b → j ≡ k → BadName k (b ∷ bs) j
-bad-here k b bs j h w e =
-    record { begun = []; byte = b; rest = bs; bytes = refl; allowed = tt; place = omega arith; most = omega arith; why = rw e w }
-
-bad-more : (k b : ℕ) (bs : List ℕ) (j : ℕ) → NameByte b → BadName (k + 1) bs j → BadName k (b ∷ bs) j
-bad-more k b bs j g i =
-    record {
-      begun = b ∷ i .begun;
-      byte = i .byte;
-      rest = i .rest;
-      bytes = cc (i .bytes);
-      allowed = (g, i .allowed);
-      place = omega (arith, i .place);
-      most = i .most;
-      why = i .why;
-    }
-
--- a scan stops only at the first byte that breaks the rule
-pub name-bad-from : (k : ℕ) (bs : List ℕ) (j : ℕ) → k ≤ 31 → scanName k bs ≡ bad j → BadName k bs j
-name-bad-from k [] j h e = clash (cc (name-none k))
-name-bad-from k (b ∷ bs) j h e =
-    elim (name-step k b h) [
-      | equals z n ↦ clash (cc (name-ends k bs n))
-      | wrong w ↦ bad-here k b bs j h w (bad-is (sym (name-wrong k b bs w) ∙ e))
-      | next n l ↦
-          bad-more k b bs j n (name-bad-from (k + 1) bs j (omega arith) (and-bad b (scanName (k + 1) bs) j (sym (name-next k b bs n l) ∙ e)))
-    ]
-
--- and it stops there
-pub bad-name-from : (k : ℕ) (begun : List ℕ) (b : ℕ) (rest : List ℕ) (j : ℕ) → Every NameByte begun → j ≡ k + length begun → j ≤ 31 → BadByte j b
-    → scanName k (begun ++ b ∷ rest) ≡ bad j
-bad-name-from k [] b rest j a e h w =
-    let q : k ≡ j = omega arith in
-    ap (λ (i : ℕ). scanName i (b ∷ rest)) q ∙ name-wrong j b rest w
-bad-name-from k (x ∷ begun) b rest j a e h w =
-    name-next k x (begun ++ b ∷ rest) (a .0) (omega arith) ∙ ap (and x) (bad-name-from (k + 1) begun b rest j (a .1) (omega arith) h w)
-
--- the area ends in a name
-pub name-short-from : (k : ℕ) (bs : List ℕ) → k ≤ 31 → scanName k bs ≡ short → CutName k bs
-name-short-from k [] h e = record { allowed = tt; most = omega arith }
-name-short-from k (b ∷ bs) h e =
-    elim (name-step k b h) [
-      | equals z n ↦ clash (cc (name-ends k bs n))
-      | wrong w ↦ clash (cc (name-wrong k b bs w))
-      | next n l ↦
-          let i = name-short-from (k + 1) bs (omega arith) (and-short b (scanName (k + 1) bs) (sym (name-next k b bs n l) ∙ e)) in
-          record { allowed = (n, i .allowed); most = omega (arith, i .most) }
-    ]
-
-pub short-name-from : (k : ℕ) (bs : List ℕ) → Every NameByte bs → k + length bs ≤ 31 → scanName k bs ≡ short
-short-name-from k [] a h = name-none k
-short-name-from k (b ∷ bs) a h = name-next k b bs (a .0) (omega arith) ∙ ap (and b) (short-name-from (k + 1) bs (a .1) (omega arith))
-
--- A GOOD NAME IS FOUND WHOLE
-pub scan-name : {name : List ℕ} (rest : List ℕ) → NameRule name → scanName 0 (name ++ 0x3D ∷ rest) ≡ ends name rest
-scan-name {name} rest r = scan-name-from 0 name rest (r .each) (omega (arith, r .least)) (omega (arith, r .most))
-
--- AND ONLY A GOOD NAME IS
-pub name-scan : (bs name rest : List ℕ) → scanName 0 bs ≡ ends name rest → (bs ≡ name ++ 0x3D ∷ rest) × NameRule name
-name-scan bs name rest e =
-    let n = name-scan-from 0 bs name rest (omega arith) e in
-    (n .bytes, record { least = omega (arith, n .least); most = omega (arith, n .most); each = n .allowed })
+use Rattle.pairs.specs.Scan.{Scan, ends, bad, short, and, scanValue, Stand, pair, finish, cut, wrongName, wrongEscape, onValue, onName, standAt}
+use Rattle.pairs.specs.Rules.{BadByte}
+use Rattle.pairs.specs.Places.{scanNameFrom}
+use Rattle.pairs.proofs.NameScans.{and-ends, and-short, and-bad, bad-is, scan-name, name-scan, ScannedWrong, name-bad-from, bad-name-from, name-short-from, short-name-from, scan-check}
 
 -- ---- a stored value, byte by byte; after: the byte before was an escape's 0xFF
 
@@ -473,7 +298,7 @@ pub data Standing : List ℕ → Stand → Type 0 where
       → Standing (name ++ 0x3D ∷ (stored ++ 0xFF ∷ c ∷ rest)) (wrongEscape (length name + 1 + (length stored + 1)))
 
 -- bytes that do not begin with 0x00
-abbrev Begun : List ℕ → Type 0
+abbrev pub Begun : List ℕ → Type 0
 Begun [] = ⊥
 Begun (b ∷ bs) = b ≢ 0x00
 
@@ -484,10 +309,10 @@ begun-name : {name : List ℕ} (t : List ℕ) → NameRule name → Begun (name 
 begun-name {name = []} t r = absurd (omega (arith, r .least))
 begun-name {name = b ∷ bs} t r = name-not-zero (r .each .0)
 
-stand-begun : (bs : List ℕ) → Begun bs → standAt bs ≡ onName (scanName 0 bs)
+pub stand-begun : (bs : List ℕ) → Begun bs → standAt bs ≡ onName (scanNameFrom 0 bs)
 unfolding standAt
 stand-begun [] h = absurd h
-stand-begun (b ∷ bs) h = rw (ne-eqb b 0x00 h, standAt)
+stand-begun (b ∷ bs) h = rw (ne-eqb b 0x00 h, standAt) (ap onName (scan-check b bs))
 
 pub stand-none : standAt [] ≡ cut
 unfolding standAt
@@ -548,16 +373,16 @@ not-begun-zero (c ∷ bs) begun b rest h e y =
     λ z. let m : c ≡ b = cc in
     h (m ∙ z)
 
-standing-wrong : (bs : List ℕ) (k : ℕ) → Begun bs → BadName 0 bs k → Standing bs (wrongName k)
+standing-wrong : (bs : List ℕ) (k : ℕ) → Begun bs → ScannedWrong 0 bs k → Standing bs (wrongName k)
 standing-wrong bs k h b =
     let q : k ≡ length (b .begun) = omega (arith, b .place) in
     rw (b .bytes, q)
     (a-wrong-name {begun = b .begun} (b .rest) (b .allowed) (omega (arith, b .most)) (rw q at (b .why))
     (not-begun-zero bs (b .begun) (b .byte) (b .rest) h (b .bytes)))
 
-standing-name : (bs : List ℕ) → Begun bs → Standing bs (onName (scanName 0 bs))
+standing-name : (bs : List ℕ) → Begun bs → Standing bs (onName (scanNameFrom 0 bs))
 standing-name bs h =
-    splitScan (scanName 0 bs)
+    splitScan (scanNameFrom 0 bs)
     (λ name t e. let n = name-scan bs name t e in rw e (rw (n .0) (standing-value name t (n .1))))
     (λ k e. rw e (standing-wrong bs k h (name-bad-from 0 bs k (omega arith) e)))
     (λ e. let n = name-short-from 0 bs (omega arith) e in rw e (cut-name {begun = bs} (n .allowed) (omega (arith, n .most))))

@@ -16,8 +16,8 @@ use Rattle.lists.proofs.ListLaws.{drop-next}
 use Rattle.lists.specs.Find.{untilEither}
 use Rattle.lists.proofs.FindLaws.{until-short, either-ahead, either-there, either-before}
 use Rattle.pairs.specs.declared.ScanEnd.the-variants.{At, Wrong, Cut}
-use Rattle.pairs.specs.Scan.{Scan, ends, bad, short, and, scanName, scanValue}
-use Rattle.pairs.specs.Places.{endOf}
+use Rattle.pairs.specs.Scan.{Scan, ends, bad, short, and, scanValue}
+use Rattle.pairs.specs.Places.{scanNameFrom, endOf}
 
 -- one byte more in front
 end-and : (from at b : ℕ) (s : Scan) → endOf from at (and b s) ≡ endOf from (at + 1) s
@@ -29,53 +29,53 @@ end-and from at b short = refl
 -- the scan of a name that began at `from` has come to i
 record NameScan (area : List ℕ) (from i : ℕ) : Type 0 where
   pub low : from ≤ i
-  pub left : endOf from from (scanName 0 (drop from area)) ≡ endOf from i (scanName (i - from) (drop i area))
+  pub left : endOf from from (scanNameFrom 0 (drop from area)) ≡ endOf from i (scanNameFrom (i - from) (drop i area))
 
 name-begun : (area : List ℕ) (from : ℕ) → NameScan area from from
 name-begun area from = record { low = omega arith; left = rw (sub-self from) }
 
 module _ {area : List ℕ} {from i : ℕ} (s : NameScan area from i) where
-  name-cut : length area ≤ i → Cut ≡ endOf from from (scanName 0 (drop from area))
-  unfolding scanName endOf
+  name-cut : length area ≤ i → Cut ≡ endOf from from (scanNameFrom 0 (drop from area))
+  unfolding scanNameFrom endOf
   name-cut h = sym (s .left ∙ rw (drop-of-length-le area h))
 
   module _ (h : i < length area) where
-    name-empty : getD area i 0 ≡ 61 → i ≡ from → Wrong i ≡ endOf from from (scanName 0 (drop from area))
-    unfolding scanName endOf
+    name-empty : getD area i 0 ≡ 61 → i ≡ from → Wrong i ≡ endOf from from (scanNameFrom 0 (drop from area))
+    unfolding scanNameFrom endOf
     name-empty b e =
         let z : i - from ≡ 0 = omega arith in
         let p : from + 0 ≡ i = omega arith in
-        sym (s .left ∙ rw (drop-next area i h, eq-eqb (getD area i 0) 61 b, eq-eqb (i - from) 0 z, scanName) (ap Wrong p))
+        sym (s .left ∙ rw (drop-next area i h, eq-eqb (getD area i 0) 61 b, eq-eqb (i - from) 0 z, scanNameFrom) (ap Wrong p))
 
-    name-ends : getD area i 0 ≡ 61 → (i ≡ from → ⊥) → At i ≡ endOf from from (scanName 0 (drop from area))
-    unfolding scanName endOf
+    name-ends : getD area i 0 ≡ 61 → (i ≡ from → ⊥) → At i ≡ endOf from from (scanNameFrom 0 (drop from area))
+    unfolding scanNameFrom endOf
     name-ends b e =
         let p : i + 0 ≡ i = omega arith in
         let z : i - from ≡ 0 → ⊥ = λ q. e (omega (arith, s .low)) in
-        sym (s .left ∙ rw (drop-next area i h, eq-eqb (getD area i 0) 61 b, ne-eqb (i - from) 0 z, scanName) (ap At p))
+        sym (s .left ∙ rw (drop-next area i h, eq-eqb (getD area i 0) 61 b, ne-eqb (i - from) 0 z, scanNameFrom) (ap At p))
 
-    name-long : (getD area i 0 ≡ 61 → ⊥) → 31 ≤ i - from → Wrong i ≡ endOf from from (scanName 0 (drop from area))
-    unfolding scanName endOf
+    name-long : (getD area i 0 ≡ 61 → ⊥) → 31 ≤ i - from → Wrong i ≡ endOf from from (scanNameFrom 0 (drop from area))
+    unfolding scanNameFrom endOf
     name-long b e =
         let p : from + (i - from) ≡ i = omega (arith, s .low) in
-        sym (s .left ∙ rw (drop-next area i h, ne-eqb (getD area i 0) 61 b, le-ltb (i - from) 31 e, and-false (nameByte (getD area i 0)), scanName) (ap Wrong p))
+        sym (s .left ∙ rw (drop-next area i h, ne-eqb (getD area i 0) 61 b, le-ltb (i - from) 31 e, and-false (nameByte (getD area i 0)), scanNameFrom) (ap Wrong p))
 
-    name-wrong : (getD area i 0 ≡ 61 → ⊥) → nameByte (getD area i 0) ≡ false → Wrong i ≡ endOf from from (scanName 0 (drop from area))
-    unfolding scanName endOf
+    name-wrong : (getD area i 0 ≡ 61 → ⊥) → nameByte (getD area i 0) ≡ false → Wrong i ≡ endOf from from (scanNameFrom 0 (drop from area))
+    unfolding scanNameFrom endOf
     name-wrong b e =
         let p : from + (i - from) ≡ i = omega (arith, s .low) in
-        sym (s .left ∙ rw (drop-next area i h, ne-eqb (getD area i 0) 61 b, e, scanName) (ap Wrong p))
+        sym (s .left ∙ rw (drop-next area i h, ne-eqb (getD area i 0) 61 b, e, scanNameFrom) (ap Wrong p))
 
     name-next : (getD area i 0 ≡ 61 → ⊥) → nameByte (getD area i 0) ≡ true → i - from < 31 → NameScan area from (i + 1)
-    unfolding scanName
+    unfolding scanNameFrom
     name-next b e k =
         let p : i - from + 1 ≡ i + 1 - from = omega (arith, s .low) in
         record {
           low = omega (arith, s .low);
           left =
               s .left
-              ∙ rw (drop-next area i h, ne-eqb (getD area i 0) 61 b, e, lt-ltb (i - from) 31 k, scanName)
-              (end-and from i (getD area i 0) (scanName (i - from + 1) (drop (i + 1) area)) ∙ ap (λ (n : ℕ). endOf from (i + 1) (scanName n (drop (i + 1) area))) p);
+              ∙ rw (drop-next area i h, ne-eqb (getD area i 0) 61 b, e, lt-ltb (i - from) 31 k, scanNameFrom)
+              (end-and from i (getD area i 0) (scanNameFrom (i - from + 1) (drop (i + 1) area)) ∙ ap (λ (n : ℕ). endOf from (i + 1) (scanNameFrom n (drop (i + 1) area))) p);
         }
 
 -- a byte that a name may hold is not `=`
@@ -98,23 +98,23 @@ module _ (area : List ℕ) (from r : ℕ) (e : r ≡ from + allowedAhead (drop f
   come : r - from ≤ 31 → NameScan area from r
   come h = let q : from + (r - from) ≡ r = omega arith in subst (λ (m : ℕ). NameScan area from m) q (name-skip area from r e (r - from) (omega arith) h)
 
-  pub end-long : 31 < r - from → Wrong (from + 31) ≡ endOf from from (scanName 0 (drop from area))
+  pub end-long : 31 < r - from → Wrong (from + 31) ≡ endOf from from (scanNameFrom 0 (drop from area))
   end-long h =
       let b : nameByte (getD area (from + 31) 0) ≡ true = end-before area from e (from + 31) (omega arith) (omega arith) in
       name-long (name-skip area from r e 31 (omega arith) (omega arith)) (omega (arith, ahead-short (drop from area), length-drop from area))
       (not-equals (getD area (from + 31) 0) b) (omega arith)
 
   module _ (h : r - from ≤ 31) where
-    pub end-cut : length area ≤ r → Cut ≡ endOf from from (scanName 0 (drop from area))
+    pub end-cut : length area ≤ r → Cut ≡ endOf from from (scanNameFrom 0 (drop from area))
     end-cut k = name-cut (come h) k
 
-    pub end-wrong : r < length area → (getD area r 0 ≡ 61 → ⊥) → Wrong r ≡ endOf from from (scanName 0 (drop from area))
+    pub end-wrong : r < length area → (getD area r 0 ≡ 61 → ⊥) → Wrong r ≡ endOf from from (scanNameFrom 0 (drop from area))
     end-wrong k b = name-wrong (come h) k b (end-there area from e k)
 
-    pub end-empty : r < length area → getD area r 0 ≡ 61 → r ≡ from → Wrong r ≡ endOf from from (scanName 0 (drop from area))
+    pub end-empty : r < length area → getD area r 0 ≡ 61 → r ≡ from → Wrong r ≡ endOf from from (scanNameFrom 0 (drop from area))
     end-empty k b z = name-empty (come h) k b z
 
-    pub end-name : r < length area → getD area r 0 ≡ 61 → (r ≡ from → ⊥) → At r ≡ endOf from from (scanName 0 (drop from area))
+    pub end-name : r < length area → getD area r 0 ≡ 61 → (r ≡ from → ⊥) → At r ≡ endOf from from (scanNameFrom 0 (drop from area))
     end-name k b z = name-ends (come h) k b z
 
 -- the scan of a value that began at `from` has come to i

@@ -18,6 +18,10 @@ abbrev pub names : List Pair → List (List ℕ)
 names [] = []
 names (p ∷ ps) = p .name ∷ names ps
 
+pub stands-none : (name : List ℕ) → stands name [] ≡ false
+unfolding stands
+stands-none name = refl
+
 pub stands-not : (name n : List ℕ) (ns : List (List ℕ)) → stands name (n ∷ ns) ≡ false → (sameBytes name n ≡ false) × (stands name ns ≡ false)
 unfolding stands
 stands-not name n ns e = or-false (sameBytes name n) (stands name ns) e

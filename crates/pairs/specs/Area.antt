@@ -1,11 +1,11 @@
 -- The variable area: pairs, the ending 0x00, padding; and its faults 7 to 10, whose offsets count from the area's first byte.
 use Prim.Native.Nat.{ℕ, zero, suc, _+_}
-use mathlib.Core.Bool.{Bool, true, false}
+use mathlib.Core.Bool.{Bool, true, false, cond}
 use mathlib.Core.List.{List, [], _∷_, _++_}
 use lib.ListN.{length}
 unfoldable pub use Rattle.repeats.specs.Pieces.{stands}
-use Rattle.errors.specs.declared.Error.{Error}
-use Rattle.errors.specs.declared.Error.the-variants.{AreaEnd, StoredName, Escape, Repeated}
+use Rattle.errors.specs.declared.AreaFault.{AreaFault}
+use Rattle.errors.specs.declared.AreaFault.the-variants.{AreaEnd, StoredName, Escape, Repeated}
 use Rattle.pairs.specs.Scan.{Stand, pair, finish, cut, wrongName, wrongEscape, standAt}
 
 -- a stored pair: its name, and its value as it is stored
@@ -24,32 +24,28 @@ unfoldable pub pairsBytes : List Pair → List ℕ
 pairsBytes [] = []
 pairsBytes (p ∷ ps) = pairBytes p ++ pairsBytes ps
 
--- the pairs of an area, or its first fault
+-- the pairs of an area, or its first fault and the offset that decides it
 pub data Parse : Type 0 where
   parsed : List Pair → Parse
-  faulty : Error → Parse
+  faulty : AreaFault → ℕ → Parse
 
 abbrev pub firstPair : Pair → Parse → Parse
 firstPair p (parsed ps) = parsed (p ∷ ps)
-firstPair p (faulty e) = faulty e
-
-abbrev pub pickParse : Bool → Parse → Parse → Parse
-pickParse true a b = a
-pickParse false a b = b
+firstPair p (faulty f at) = faulty f at
 
 -- seen: the names before; at: the offset of what is left; past: the area's length; go: the parse of what follows a pair
 abbrev pub onStand : Stand → List (List ℕ) → ℕ → ℕ → (List (List ℕ) → ℕ → List ℕ → Parse) → Parse
 onStand (pair name stored rest) seen at past go =
-    pickParse (stands name seen) (faulty (Repeated at))
+    cond (stands name seen) (faulty Repeated at)
     (firstPair (pairOf name stored) (go (name ∷ seen) (at + length name + length stored + 2) rest))
 onStand finish seen at past go = parsed []
-onStand cut seen at past go = faulty (AreaEnd past)
-onStand (wrongName k) seen at past go = faulty (StoredName (at + k))
-onStand (wrongEscape k) seen at past go = faulty (Escape (at + k))
+onStand cut seen at past go = faulty AreaEnd past
+onStand (wrongName k) seen at past go = faulty StoredName (at + k)
+onStand (wrongEscape k) seen at past go = faulty Escape (at + k)
 
 -- the first number bounds the pairs, and one more than the area's length is enough
 unfoldable pub parseFrom : ℕ → List (List ℕ) → ℕ → ℕ → List ℕ → Parse
-parseFrom zero seen at past rest = faulty (AreaEnd past)
+parseFrom zero seen at past rest = faulty AreaEnd past
 parseFrom (suc n) seen at past rest = onStand (standAt rest) seen at past (λ s a r. parseFrom n s a past r)
 
 -- the pairs of an area

@@ -1,12 +1,15 @@
 -- What the code answers, in terms of the scans, the stands and the pairs: offsets count from the area's first byte.
 use Prim.Native.Nat.{ℕ, zero, suc, _+_}
-use mathlib.Core.Bool.{Bool, true, false}
-use mathlib.Core.List.{List}
+use mathlib.Core.Bool.{Bool, true, false, _&&_, cond}
+use mathlib.Core.List.{List, [], _∷_}
 use lib.ListN.{length}
+use lib.Dec.{ltb, eqb}
 use Rattle.lists.specs.Bytes.{sameBytes}
+use Rattle.names.specs.Name.{nameByte}
 use Rattle.repeats.specs.declared.Repeat.{Repeat}
 use Rattle.repeats.specs.declared.Repeat.the-variants as Repeat
-use Rattle.errors.specs.declared.Error.the-variants.{AreaEnd, StoredName, Escape, Repeated}
+use Rattle.errors.specs.declared.AreaFault.the-variants.{AreaEnd, StoredName, Escape, Repeated}
+use Rattle.errors.specs.declared.Error.the-variants.{BadArea}
 use Rattle.pairs.specs.declared.ScanEnd.{ScanEnd}
 use Rattle.pairs.specs.declared.ScanEnd.the-variants as ScanEnd
 use Rattle.pairs.specs.declared.PairAt.{PairAt}
@@ -15,8 +18,17 @@ use Rattle.pairs.specs.declared.Scanned.{Scanned}
 use Rattle.pairs.specs.declared.Scanned.the-variants as Scanned
 use Rattle.pairs.specs.declared.Place.{Place}
 use Rattle.pairs.specs.declared.Place.the-variants as Place
-use Rattle.pairs.specs.Scan.{Scan, ends, bad, short, Stand, pair, finish, cut, wrongName, wrongEscape, standAt}
+use Rattle.pairs.specs.Scan.{Scan, ends, bad, short, and, Stand, pair, finish, cut, wrongName, wrongEscape, standAt}
 use Rattle.pairs.specs.Area.{Parse, parsed, faulty, pairsBytes}
+
+-- a scan of a stored name byte by byte; k bytes have been read: an `=` ends it, but not at once; any other byte is allowed and at most the 31st
+unfoldable pub scanNameFrom : ℕ → List ℕ → Scan
+scanNameFrom k [] = short
+scanNameFrom k (b ∷ bs) =
+    elim (eqb b 0x3D) [
+      | true ↦ cond (eqb k 0) (bad 0) (ends [] bs)
+      | false ↦ elim (nameByte b && ltb k 31) [ true ↦ and b (scanNameFrom (k + 1) bs) | false ↦ bad k ]
+    ]
 
 -- where a scan that began at `from` ends; at: the offset of what is left of it
 unfoldable pub endOf : ℕ → ℕ → Scan → ScanEnd
@@ -35,29 +47,25 @@ placeOf at (wrongEscape k) = PairAt.WrongEscape (at + k)
 -- the number of pairs, the offset of the ending 0x00 and the place that was sought, or the first fault
 unfoldable pub scannedOf : Parse → Place → Scanned
 scannedOf (parsed ps) place = Scanned.Pairs (length ps) (length (pairsBytes ps)) place
-scannedOf (faulty e) place = Scanned.Refused e
+scannedOf (faulty f at) place = Scanned.Refused (BadArea f at)
 
 -- what ends the pairs of an area of so many bytes, where count of them stand before at; a pair does not come here
 unfoldable pub closedOf : PairAt → ℕ → ℕ → ℕ → Place → Scanned
-closedOf (PairAt.Pair q e) long count at place = Scanned.Refused (AreaEnd long)
+closedOf (PairAt.Pair q e) long count at place = Scanned.Refused (BadArea AreaEnd long)
 closedOf PairAt.End long count at place = Scanned.Pairs count at place
-closedOf PairAt.Cut long count at place = Scanned.Refused (AreaEnd long)
-closedOf (PairAt.WrongName k) long count at place = Scanned.Refused (StoredName k)
-closedOf (PairAt.WrongEscape k) long count at place = Scanned.Refused (Escape k)
+closedOf PairAt.Cut long count at place = Scanned.Refused (BadArea AreaEnd long)
+closedOf (PairAt.WrongName k) long count at place = Scanned.Refused (BadArea StoredName k)
+closedOf (PairAt.WrongEscape k) long count at place = Scanned.Refused (BadArea Escape k)
 
 -- a repeat among the complete pairs goes before what stands after them
 unfoldable pub orRepeat : Repeat → Scanned → Scanned
-orRepeat (Repeat.At at) out = Scanned.Refused (Repeated at)
+orRepeat (Repeat.At at) out = Scanned.Refused (BadArea Repeated at)
 orRepeat Repeat.None out = out
-
-abbrev pub pickPlace : Bool → Place → Place → Place
-pickPlace true a b = a
-pickPlace false a b = b
 
 -- at: the offset of what is left; go: the search in what follows a pair
 abbrev pub onFind : Stand → List ℕ → ℕ → (ℕ → List ℕ → Place) → Place
 onFind (pair n stored rest) name at go =
-    pickPlace (sameBytes name n) (Place.At at (at + length n) (at + length n + 1 + length stored)) (go (at + length n + length stored + 2) rest)
+    cond (sameBytes name n) (Place.At at (at + length n) (at + length n + 1 + length stored)) (go (at + length n + length stored + 2) rest)
 onFind finish name at go = Place.None
 onFind cut name at go = Place.None
 onFind (wrongName k) name at go = Place.None

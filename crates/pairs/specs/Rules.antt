@@ -5,8 +5,8 @@ use mathlib.Core.List.{List, [], _∷_, _++_}
 use mathlib.Core.Logic.{_≢_, _⊎_}
 use lib.ListN.{length}
 use Rattle.lists.specs.Bytes.{Every}
-use Rattle.errors.specs.declared.Error.{Error}
-use Rattle.errors.specs.declared.Error.the-variants.{AreaEnd, StoredName, Escape, Repeated}
+use Rattle.errors.specs.declared.AreaFault.{AreaFault}
+use Rattle.errors.specs.declared.AreaFault.the-variants.{AreaEnd, StoredName, Escape, Repeated}
 use Rattle.names.specs.Rules.{NameByte, NameRule}
 use Rattle.values.specs.Rules.{Spells}
 
@@ -57,19 +57,19 @@ pub data CutOff : List ℕ → Type 0 where
   in-escape : {name stored value : List ℕ} → NameRule name → Spells stored value → CutOff (name ++ 0x3D ∷ (stored ++ 0xFF ∷ []))
 
 -- the fault at what is left of an area after good pairs with these entries; its offset counts from the area's first byte
-pub data FaultAt (past : ℕ) (es : List Entry) : List ℕ → Error → Type 0 where
-  seven : {rest : List ℕ} → CutOff rest → FaultAt past es rest (AreaEnd past)
+pub data FaultAt (past : ℕ) (es : List Entry) : List ℕ → AreaFault → ℕ → Type 0 where
+  seven : {rest : List ℕ} → CutOff rest → FaultAt past es rest AreaEnd past
   eight : {b : ℕ} {begun : List ℕ} (rest : List ℕ) → Every NameByte begun → length begun ≤ 31 → BadByte (length begun) b
-      → (begun ≡ [] → b ≢ 0x00) → FaultAt past es (begun ++ b ∷ rest) (StoredName (sizes es + length begun))
+      → (begun ≡ [] → b ≢ 0x00) → FaultAt past es (begun ++ b ∷ rest) StoredName (sizes es + length begun)
   nine : {c : ℕ} {name stored value : List ℕ} (rest : List ℕ) → NameRule name → Spells stored value → (c ≡ 0x00) ⊎ (c ≡ 0x80)
-      → FaultAt past es (name ++ 0x3D ∷ (stored ++ 0xFF ∷ c ∷ rest)) (Escape (sizes es + (length name + 1 + (length stored + 1))))
+      → FaultAt past es (name ++ 0x3D ∷ (stored ++ 0xFF ∷ c ∷ rest)) Escape (sizes es + (length name + 1 + (length stored + 1)))
   ten : {name stored value : List ℕ} (rest : List ℕ) → NameRule name → Spells stored value → In name es
-      → FaultAt past es (name ++ 0x3D ∷ (stored ++ 0x00 ∷ rest)) (Repeated (sizes es))
+      → FaultAt past es (name ++ 0x3D ∷ (stored ++ 0x00 ∷ rest)) Repeated (sizes es)
 
 -- an area with a fault: good pairs, no name twice, and then what decides it
-pub record Faulty (area : List ℕ) (e : Error) : Type 0 where
+pub record Faulty (area : List ℕ) (f : AreaFault) (at : ℕ) : Type 0 where
   pub before : List Entry
   pub rest : List ℕ
   pub pairs : Pairs before area rest
   pub once : Once before
-  pub fault : FaultAt (length area) before rest e
+  pub fault : FaultAt (length area) before rest f at

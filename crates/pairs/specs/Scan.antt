@@ -1,10 +1,10 @@
 -- What stands where a pair would begin: a scan of a name up to its `=`, and of a value up to its 0x00.
 use Prim.Native.Nat.{ℕ, _+_}
-use mathlib.Core.Bool.{Bool, true, false, _&&_, _||_}
+use mathlib.Core.Bool.{Bool, true, false, _||_}
 use mathlib.Core.List.{List, [], _∷_}
-use lib.ListN.{length}
-use lib.Dec.{ltb, eqb}
-use Rattle.names.specs.Name.{nameByte}
+use lib.ListN.{length, take, drop}
+use lib.Dec.{eqb}
+use Rattle.names.specs.Name.{nameCheck, onCheck}
 
 -- its bytes and what follows the byte that ends it; or the first byte that breaks the rule, so many bytes further on; or the area ends first
 pub data Scan : Type 0 where
@@ -18,18 +18,19 @@ and b (ends bs rest) = ends (b ∷ bs) rest
 and b (bad k) = bad k
 and b short = short
 
-abbrev pub pickScan : Bool → Scan → Scan → Scan
-pickScan true a b = a
-pickScan false a b = b
+-- the stored name at the start of these bytes: those before the first `=`, or all where there is none
+unfoldable pub storedName : List ℕ → List ℕ
+storedName [] = []
+storedName (b ∷ bs) = elim (eqb b 0x3D) [ true ↦ [] | false ↦ b ∷ storedName bs ]
 
--- k bytes of the name have been read: an `=` ends it, but not at once; any other byte is allowed and at most the 31st
-unfoldable pub scanName : ℕ → List ℕ → Scan
-scanName k [] = short
-scanName k (b ∷ bs) =
-    elim (eqb b 0x3D) [
-      | true ↦ pickScan (eqb k 0) (bad 0) (ends [] bs)
-      | false ↦ elim (nameByte b && ltb k 31) [ true ↦ and b (scanName (k + 1) bs) | false ↦ bad k ]
-    ]
+-- what follows it: the `=` and the rest, or the area's end
+abbrev pub pastName : List ℕ → List ℕ → Scan
+pastName name [] = short
+pastName name (b ∷ rest) = ends name rest
+
+-- a stored name is checked as a caller's is, by its first 32 bytes
+unfoldable pub scanName : List ℕ → Scan
+scanName bs = onCheck (nameCheck (take 32 (storedName bs))) (pastName (storedName bs) (drop (length (storedName bs)) bs)) bad
 
 -- k bytes of the stored value have been read; after: the last one was an escape's 0xFF, which 0x00 and 0x80 must not follow
 unfoldable pub scanValue : Bool → ℕ → List ℕ → Scan
@@ -58,4 +59,4 @@ onName short = cut
 -- what stands at the start of these bytes
 unfoldable pub standAt : List ℕ → Stand
 standAt [] = cut
-standAt (b ∷ bs) = elim (eqb b 0x00) [ true ↦ finish | false ↦ onName (scanName 0 (b ∷ bs)) ]
+standAt (b ∷ bs) = elim (eqb b 0x00) [ true ↦ finish | false ↦ onName (scanName (b ∷ bs)) ]

@@ -1,4 +1,5 @@
 // The pairs of a variable area: what stands at an offset, and the scan of the whole area.
+use errors::AreaFault;
 use errors::Error;
 use repeats::Repeat;
 ghost use mathlib.Core.Path.{_≡_};
@@ -6,9 +7,9 @@ ghost use mathlib.Core.Bool.{false};
 ghost use Prim.Native.Nat.{_≤_};
 ghost use lib.ListN.{length, take, drop};
 ghost use Rattle.repeats.specs.Pieces.{firstRepeat};
-ghost use Rattle.pairs.specs.Scan.{scanName, scanValue, standAt};
+ghost use Rattle.pairs.specs.Scan.{scanValue, standAt};
 ghost use Rattle.pairs.specs.Area.{parse};
-ghost use Rattle.pairs.specs.Places.{endOf, placeOf, orRepeat, scannedOf, closedOf, firstPlace, findAt};
+ghost use Rattle.pairs.specs.Places.{scanNameFrom, endOf, placeOf, orRepeat, scannedOf, closedOf, firstPlace, findAt};
 
 // Where a scan of a name or of a value ends.
 enum ScanEnd {
@@ -56,7 +57,7 @@ pub enum Place {
 
 // Scans a name up to its `=`.
 fn scan_name(area: &[u8], from: usize) -> ScanEnd
-    ensures { λ r. ⌜ r ≡ endOf from from (scanName 0 (drop from (now (area .entry)))) ⌝ }
+    ensures { λ r. ⌜ r ≡ endOf from from (scanNameFrom 0 (drop from (now (area .entry)))) ⌝ }
 {
     let end = names::name_end(area, from);
     if 31 < end - from {
@@ -119,13 +120,20 @@ pub fn pair_at(area: &[u8], at: usize) -> PairAt
     }
 }
 
+// An area with a fault, decided at an offset.
+fn refused(fault: AreaFault, at: usize) -> Scanned
+    ensures { λ r. ⌜ r ≡ Scanned.Refused (Error.BadArea fault at) ⌝ }
+{
+    Scanned::Refused(Error::BadArea { fault, at })
+}
+
 // A repeat among the complete pairs, which end at `at`, goes before what stands after them.
 fn or_repeat(area: &[u8], at: usize, out: Scanned) -> Scanned
     requires { ⌜ at ≤ length (now area) ⌝ }
     ensures { λ r. ⌜ r ≡ orRepeat (firstRepeat (take at (now (area .entry)))) out ⌝ }
 {
     match repeats::first_repeat(&area[..at]) {
-        Repeat::At(later) => Scanned::Refused(Error::Repeated { at: later }),
+        Repeat::At(later) => refused(AreaFault::Repeated, later),
         Repeat::None => out,
     }
 }
@@ -135,15 +143,15 @@ fn closed(seen: PairAt, long: usize, count: usize, at: usize, place: Place) -> S
     ensures { λ r. ⌜ r ≡ closedOf seen long count at place ⌝ }
 {
     match seen {
-        PairAt::Pair { equals: _, end: _ } => Scanned::Refused(Error::AreaEnd { at: long }),
+        PairAt::Pair { equals: _, end: _ } => refused(AreaFault::AreaEnd, long),
         PairAt::End => Scanned::Pairs {
             count: count,
             used: at,
             place: place,
         },
-        PairAt::Cut => Scanned::Refused(Error::AreaEnd { at: long }),
-        PairAt::WrongName(k) => Scanned::Refused(Error::StoredName { at: k }),
-        PairAt::WrongEscape(k) => Scanned::Refused(Error::Escape { at: k }),
+        PairAt::Cut => refused(AreaFault::AreaEnd, long),
+        PairAt::WrongName(k) => refused(AreaFault::StoredName, k),
+        PairAt::WrongEscape(k) => refused(AreaFault::Escape, k),
     }
 }
 

@@ -2,11 +2,13 @@
 use Prim.Native.Nat.{ℕ, suc, zero, _+_, _-_, _*_, _≤_, _<_}
 use mathlib.Core.Path.{_≡_, ap, subst, refl, sym, _∙_}
 use mathlib.Core.Logic.{_↔_}
-use mathlib.Core.Bool.{Bool, true, false}
-use mathlib.Core.List.{List, [], _∷_}
+use mathlib.Core.Bool.{Bool, true, false, cond}
+use mathlib.Core.List.{List, [], _∷_, _++_, append-assoc}
 use native.Mathlib.Omega.{arith}
-use lib.ListN.{length, take, drop, getD, length-drop}
-use lib.Seq.{getD-take, getD-drop, length-take-le}
+use lib.ListN.{length, take, drop, getD, length-drop, take-append-drop}
+use lib.Seq.{getD-take, getD-drop, length-take-le, drop-drop}
+use Rattle.lists.specs.Pasted.{pasted}
+use Rattle.lists.proofs.Tests.{clash}
 use Rattle.header.specs.declared.Bytes.{Bytes}
 use Rattle.errors.specs.declared.Error.{Error}
 use Rattle.header.specs.declared.Validity.the-variants.{Valid}
@@ -17,10 +19,11 @@ use Rattle.partitions.specs.declared.Step.{Step}
 use Rattle.partitions.specs.declared.Step.the-variants.{Next, End, Broken}
 use Rattle.partitions.specs.declared.Found.{Found}
 use Rattle.partitions.specs.declared.Found.the-variants.{At, Refused}
-use Rattle.partitions.specs.Walk.{partitionOf, pastOf, stepAt, Walk, covered, broken, first, onStep, walkFrom, allowedLength, pickWalk, walk}
+use Rattle.partitions.specs.Walk.{partitionOf, pastOf, stepAt, Walk, covered, broken, first, onStep, walkFrom, allowedLength, walk}
 use Rattle.partitions.specs.Cover.{partitionAt, areaAt}
-use Rattle.partitions.specs.Find.{matches, firstMatch, findBy, findOf, areaOf}
+use Rattle.partitions.specs.Find.{firstMatch, findBy, findOf, areaOf}
 use Rattle.partitions.proofs.WalkLaws.{View, ends, goes, breaks, view}
+use Rattle.partitions.proofs.FoundLaws.{Match, found, missing, match}
 
 -- a partition with its header, inside the image
 pub record Inside (image : List ℕ) (p : Partition) : Type 0 where
@@ -34,10 +37,6 @@ EachInside image (p ∷ ps) = Inside image p × EachInside image ps
 abbrev WalkInside : List ℕ → Walk → Type 0
 WalkInside image (covered ps) = EachInside image ps
 WalkInside image (broken e) = Unit {0}
-
-abbrev FoundInside : List ℕ → Found → Type 0
-FoundInside image (At p) = Inside image p
-FoundInside image (Refused e) = Unit {0}
 
 valid-inside : (image : List ℕ) (at : ℕ) → at < length image → validityAt image at ≡ Valid → Inside image (partitionOf image at)
 unfolding partitionOf validityAt
@@ -64,30 +63,40 @@ walk-inside : (image : List ℕ) → WalkInside image (walk image)
 unfolding walk
 walk-inside image = go (allowedLength (length image))
   where
-    go : (b : Bool) → WalkInside image (pickWalk b (walkFrom (suc (length image)) image 0) (broken Rattle.errors.specs.declared.Error.the-variants.ImageLength))
+    go : (b : Bool) → WalkInside image (cond b (walkFrom (suc (length image)) image 0) (broken Rattle.errors.specs.declared.Error.the-variants.ImageLength))
     go true = from-inside image (suc (length image)) 0
     go false = tt
 
-match-inside : (image : List ℕ) (signature : ℕ) (name : List ℕ) (ps : List Partition) → EachInside image ps → FoundInside image (firstMatch image signature name ps)
-unfolding firstMatch
-match-inside image signature name [] i = tt
-match-inside image signature name (p ∷ ps) i = go (matches image signature name (p .offset)) refl (match-inside image signature name ps (i .1))
-  where
-    go : (b : Bool) → matches image signature name (p .offset) ≡ b → FoundInside image (firstMatch image signature name ps)
-        → FoundInside image (firstMatch image signature name (p ∷ ps))
-    go true e ih = rw e (i .0)
-    go false e ih = rw e ih
+-- p is one of the partitions that cover the image
+pub record Among (image : List ℕ) (p : Partition) : Type 0 where
+  pub before : List Partition
+  pub after : List Partition
+  pub walks : walk image ≡ covered (before ++ p ∷ after)
 
-find-inside : (image : List ℕ) (signature : ℕ) (name : List ℕ) → FoundInside image (findOf image signature name)
+each-inside : (image : List ℕ) (before : List Partition) (p : Partition) (after : List Partition) → EachInside image (before ++ p ∷ after) → Inside image p
+each-inside image [] p after i = i .0
+each-inside image (q ∷ before) p after i = each-inside image before p after (i .1)
+
+pub among-inside : (image : List ℕ) (p : Partition) → Among image p → Inside image p
+among-inside image p m = each-inside image (m .before) p (m .after) (subst (WalkInside image) (m .walks) (walk-inside image))
+
+-- a partition that was found is one of them
+pub found-among : (image : List ℕ) (signature : ℕ) (name : List ℕ) (p : Partition) → findOf image signature name ≡ At p → Among image p
 unfolding findOf findBy
-find-inside image signature name = go (walk image) (walk-inside image)
+found-among image signature name p = go (walk image) refl
   where
-    go : (w : Walk) → WalkInside image w → FoundInside image (findBy image signature name w)
-    go (covered ps) i = match-inside image signature name ps i
-    go (broken e) i = tt
+    of-match : (ps : List Partition) → walk image ≡ covered ps → (f : Found) → Match image signature name ps f → f ≡ At p → Among image p
+    of-match ps w (At q) (found s) e =
+        let k : q ≡ p = cc in
+        record { before = s .before; after = s .after; walks = w ∙ ap covered (sym (s .joined) ∙ ap (λ (r : Partition). s .before ++ r ∷ s .after) k) }
+    of-match ps w (Refused x) (missing n) e = clash (cc)
+
+    go : (w : Walk) → walk image ≡ w → findBy image signature name w ≡ At p → Among image p
+    go (covered ps) w e = of-match ps w (firstMatch image signature name ps) (match image signature name ps) e
+    go (broken x) w e = clash (cc)
 
 pub found-inside : (image : List ℕ) (signature : ℕ) (name : List ℕ) (p : Partition) → findOf image signature name ≡ At p → Inside image p
-found-inside image signature name p e = subst (FoundInside image) e (find-inside image signature name)
+found-inside image signature name p e = among-inside image p (found-among image signature name p e)
 
 -- the same of what the code has found
 module _ (image : List ℕ) (signature : ℕ) (name : List ℕ) (f : Found) (ef : f ≡ findOf image signature name) where
@@ -115,10 +124,39 @@ module _ (image : List ℕ) (p : Partition) (i : Inside image p) where
       let q : bytesOf (p .blocks) .0 - 16 ≤ length (drop (p .offset + 16) image) = omega (arith, length-drop (p .offset + 16) image) in
       length-take-le (bytesOf (p .blocks) .0 - 16) (drop (p .offset + 16) image) q ∙ omega arith
 
+  -- as the part of the image between its two offsets
+  pub area-part : areaOf image (At p)
+      ≡ take ((p .offset + bytesOf (p .blocks) .0) - (p .offset + 16)) (drop (p .offset + 16) image)
+  unfolding areaOf
+  area-part =
+      let e : bytesOf (p .blocks) .0 - 16 ≡ (p .offset + bytesOf (p .blocks) .0) - (p .offset + 16) = omega arith in
+      ap (λ (n : ℕ). take n (drop (p .offset + 16) image)) e
+
+  pub area-long : length (areaOf image (At p)) ≡ p .blocks .0 * 16 - 16
+  area-long = area-length ∙ omega arith
+
+  -- an area put back as it was
+  pub area-back : pasted image (p .offset + 16) (areaOf image (At p)) ≡ image
+  unfolding pasted areaOf
+  area-back =
+      let n : ℕ = p .offset + 16 in
+      let k : ℕ = p .blocks .0 * 16 - 16 in
+      let l : length (take k (drop n image)) ≡ k = area-long in
+      ap (λ (m : ℕ). take n image ++ take k (drop n image) ++ drop (n + m) image) l
+      ∙ ap (λ (z : List ℕ). take n image ++ take k (drop n image) ++ z) (sym (drop-drop k n image))
+      ∙ append-assoc (take n image) (take k (drop n image)) (drop k (drop n image))
+      ∙ ap (λ (z : List ℕ). take n image ++ z) (take-append-drop k (drop n image))
+      ∙ take-append-drop n image
+
   pub area-byte : (k : ℕ) → k < 16 * (p .blocks .0 - 1) → getD (areaOf image (At p)) k 0 ≡ getD image (p .offset + 16 + k) 0
   unfolding areaOf
   area-byte k h =
       getD-take (bytesOf (p .blocks) .0 - 16) (drop (p .offset + 16) image) k 0 (omega arith) ∙ getD-drop (p .offset + 16) image k 0
+
+-- nothing where it was refused
+pub area-refused : (image : List ℕ) (e : Error) → areaOf image (Refused e) ≡ []
+unfolding areaOf
+area-refused image e = refl
 
 -- the area by the rules is that of the partition at the offset
 pub area-at : (image : List ℕ) (at : ℕ) → areaAt image at ≡ areaOf image (At (partitionAt image at))

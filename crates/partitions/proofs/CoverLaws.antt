@@ -11,10 +11,13 @@ use borrow.Author.Tests.{eq-eqb, le-leb, eqb-true, leb-true}
 use Rattle.lists.specs.Bytes.{AllBytes}
 use Rattle.lists.proofs.Tests.{split, clash, and-true}
 use Rattle.errors.specs.declared.Error.{Error}
-use Rattle.errors.specs.declared.Error.the-variants.{ImageLength}
-use Rattle.header.specs.Header.{headerAt}
+use Rattle.errors.specs.declared.HeaderFault.{HeaderFault}
+use Rattle.errors.specs.declared.Error.the-variants.{ImageLength, BadHeader}
+use Rattle.header.specs.declared.Validity.the-variants.{Invalid}
+use Rattle.header.specs.Header.{headerAt, validityAt}
 use Rattle.header.specs.Rules.{blocksAt, Sound, Breaks}
 use Rattle.header.proofs.RuleLaws.{valid-exactly, invalid-exactly, sound-valid, breaks-invalid}
+use Rattle.header.proofs.ValidityLaws.{invalid-here}
 use Rattle.partitions.specs.declared.Partition.{Partition}
 use Rattle.partitions.specs.declared.Step.{Step}
 use Rattle.partitions.specs.declared.Step.the-variants.{Next, End, Broken}
@@ -22,7 +25,7 @@ use Rattle.partitions.specs.declared.Checked.{Checked}
 use Rattle.partitions.specs.declared.Checked.the-variants.{Accepted as Accepts, Refused as Refuses}
 use Rattle.partitions.specs.Walk.{allowedLength, partitionOf, pastOf, stepAt, Walk, covered, broken, first, onStep, walkFrom, walk}
 use Rattle.partitions.specs.Find.{checkedBy, checkOf}
-use Rattle.partitions.specs.Cover.{LengthRule, partitionAt, pastAt, Cover, here, next, Accepted, Counted, Rejected, one, header}
+use Rattle.partitions.specs.Cover.{LengthRule, partitionAt, pastAt, Cover, here, next, Accepted, PartitionCount, Rejected, one, header}
 use Rattle.partitions.proofs.StepLaws.{step-end, step-next, step-broken}
 use Rattle.partitions.proofs.WalkLaws.{View, ends, goes, breaks, view, past-bounds, rest, rest-next, rest-end, rest-broken, walk-rest, walk-refused}
 
@@ -82,14 +85,17 @@ module _ (image : List ℕ) (bytes : AllBytes image) where
   cover-covered {ps = ps} c =
       cover-rest c ∙ ap (prepend ps) (rest-end image (length image) (step-end image (length image) (omega arith))) ∙ prepend-covered ps
 
-  pub cover-broken : {a b : ℕ} {ps : List Partition} {e : Error} → Cover image a b ps → b < length image → Breaks image b e → rest image a ≡ broken e
-  cover-broken {b = b} {ps = ps} {e = e} c l x =
+  pub cover-broken : {a b : ℕ} {ps : List Partition} {f : HeaderFault} → Cover image a b ps → b < length image → Breaks image b f
+      → rest image a ≡ broken (BadHeader f b)
+  cover-broken {b = b} {ps = ps} {f = f} c l x =
+      let e : Error = BadHeader f b in
       cover-rest c ∙ ap (prepend ps) (rest-broken image b e (step-broken image b l e (breaks-invalid image b bytes x))) ∙ prepend-broken ps e
 
   -- what a walk finds, by the rules
   data Outcome (a : ℕ) : Walk → Type 0 where
     complete : {ps : List Partition} → Cover image a (length image) ps → Outcome a (covered ps)
-    stopped : {b : ℕ} {ps : List Partition} {e : Error} → Cover image a b ps → b < length image → Breaks image b e → Outcome a (broken e)
+    stopped : {b : ℕ} {ps : List Partition} {f : HeaderFault} → Cover image a b ps → b < length image → Breaks image b f
+        → Outcome a (broken (BadHeader f b))
 
   outcome-first : (a : ℕ) → Sound image a → (w : Walk) → Outcome (pastAt image a) w → Outcome a (first (partitionAt image a) w)
   outcome-first a s (covered ps) (complete c) = complete (next s c)
@@ -109,7 +115,10 @@ module _ (image : List ℕ) (bytes : AllBytes image) where
           let o : Outcome (pastAt image at) (walkFrom n image (pastOf image at)) =
           subst (λ (k : ℕ). Outcome k (walkFrom n image (pastOf image at))) (past-same image at) (ih (omega arith) (omega arith)) in
           rw (partition-same image at) (outcome-first at (valid-exactly image at bytes .0 v) (walkFrom n image (pastOf image at)) o)
-      go (Broken x) (breaks i v) ih = stopped here i (invalid-exactly image at bytes x .0 v)
+      go (Broken x) (breaks i v) ih =
+          let h = invalid-here image at x v in
+          let w : validityAt image at ≡ Invalid (BadHeader (h .0) at) = v ∙ ap Invalid (h .1) in
+          rw (h .1) (stopped here i (invalid-exactly image at bytes (h .0) .0 w))
 
   rest-outcome : Outcome 0 (rest image 0)
   unfolding rest
@@ -158,11 +167,11 @@ module _ (image : List ℕ) (bytes : AllBytes image) where
       same e = cc
 
   -- the count answered is the number of partitions in the cover
-  pub check-accepts : (n : ℕ) → (checkOf image ≡ Accepts n) ↔ Counted image n
+  pub check-accepts : (n : ℕ) → (checkOf image ≡ Accepts n) ↔ PartitionCount image n
   unfolding checkOf checkedBy
   check-accepts n = (go (walk image) walked, λ k. ap checkedBy (accepted-exactly (k .all) .1 (k .accepted)) ∙ ap Accepts (k .counted))
     where
-      go : (w : Walk) → Walked w → checkedBy w ≡ Accepts n → Counted image n
+      go : (w : Walk) → Walked w → checkedBy w ≡ Accepts n → PartitionCount image n
       go (covered ps) (accepts a) e = record { all = ps; accepted = a; counted = cc }
       go (broken x) (rejects r) e = clash (cc)
 

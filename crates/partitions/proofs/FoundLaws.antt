@@ -54,14 +54,14 @@ module _ (image : List ℕ) (signature : ℕ) (name : List ℕ) (at : ℕ) where
 
 -- the first match of a list, by the rules
 module _ (image : List ℕ) (signature : ℕ) (name : List ℕ) where
-  record Split (all : List Partition) (p : Partition) : Type 0 where
-    before : List Partition
-    after : List Partition
-    joined : before ++ p ∷ after ≡ all
-    unnamed : NoneNamed image signature name before
-    named : Named image signature name (p .offset)
+  pub record Split (all : List Partition) (p : Partition) : Type 0 where
+    pub before : List Partition
+    pub after : List Partition
+    pub joined : before ++ p ∷ after ≡ all
+    pub unnamed : NoneNamed image signature name before
+    pub named : Named image signature name (p .offset)
 
-  data Match (all : List Partition) : Found → Type 0 where
+  pub data Match (all : List Partition) : Found → Type 0 where
     found : {p : Partition} → Split all p → Match all (At p)
     missing : NoneNamed image signature name all → Match all (Refused NoPartition)
 
@@ -76,7 +76,7 @@ module _ (image : List ℕ) (signature : ℕ) (name : List ℕ) where
       })
   match-later p ps q (Refused e) (missing n) = missing (q, n)
 
-  match : (ps : List Partition) → Match ps (firstMatch image signature name ps)
+  pub match : (ps : List Partition) → Match ps (firstMatch image signature name ps)
   unfolding firstMatch
   match [] = missing tt
   match (p ∷ ps) = go (match ps)

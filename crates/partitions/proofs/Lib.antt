@@ -3,5 +3,6 @@ pub mod WalkLaws
 pub mod CheckLaws
 pub mod FindLaws
 pub mod CoverLaws
-pub mod AreaLaws
 pub mod FoundLaws
+pub mod AreaLaws
+pub mod FrameLaws

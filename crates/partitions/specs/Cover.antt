@@ -3,8 +3,9 @@ use Prim.Native.Nat.{ℕ, _+_, _-_, _*_, _%_, _≤_, _<_}
 use mathlib.Core.Path.{_≡_}
 use mathlib.Core.List.{List, [], _∷_, _++_}
 use lib.ListN.{length, take, drop, replicate}
+use Rattle.errors.specs.declared.HeaderFault.{HeaderFault}
 use Rattle.errors.specs.declared.Error.{Error}
-use Rattle.errors.specs.declared.Error.the-variants.{ImageLength}
+use Rattle.errors.specs.declared.Error.the-variants.{ImageLength, BadHeader}
 use Rattle.header.specs.Header.{byteAt, nameAt}
 use Rattle.header.specs.Rules.{blocksAt, Sound, Breaks}
 use Rattle.partitions.specs.declared.Partition.{Partition}
@@ -36,7 +37,7 @@ pub record Accepted (image : List ℕ) (ps : List Partition) : Type 0 where
   pub cover : Cover image 0 (length image) ps
 
 -- an accepted image of n partitions
-pub record Counted (image : List ℕ) (n : ℕ) : Type 0 where
+pub record PartitionCount (image : List ℕ) (n : ℕ) : Type 0 where
   pub all : List Partition
   pub accepted : Accepted image all
   pub counted : length all ≡ n
@@ -44,8 +45,8 @@ pub record Counted (image : List ℕ) (n : ℕ) : Type 0 where
 -- an image refused by 1 to 5: its length breaks the rule, or a cover reaches a header that breaks one
 pub data Rejected (image : List ℕ) : Error → Type 0 where
   one : ¬ (LengthRule (length image)) → Rejected image ImageLength
-  header : {a : ℕ} {ps : List Partition} {e : Error} → LengthRule (length image) → Cover image 0 a ps → a < length image
-      → Breaks image a e → Rejected image e
+  header : {a : ℕ} {ps : List Partition} {f : HeaderFault} → LengthRule (length image) → Cover image 0 a ps → a < length image
+      → Breaks image a f → Rejected image (BadHeader f a)
 
 -- signature and name of the header at an offset: all twelve bytes, a shorter name filled with 0x00, a longer one never
 pub record Named (image : List ℕ) (signature : ℕ) (name : List ℕ) (at : ℕ) : Type 0 where
@@ -88,3 +89,9 @@ pub record NotIndexed (image : List ℕ) (n : ℕ) : Type 0 where
 -- the data area: the bytes from offset + 16 to offset + 16 x blocks
 unfoldable pub areaAt : List ℕ → ℕ → List ℕ
 areaAt image at = take (blocksAt image at * 16 - 16) (drop (at + 16) image)
+
+-- an image that has changed in the data area of the partition at an offset, and in no byte outside it
+pub record OutsideKept (image : List ℕ) (at : ℕ) (changed : List ℕ) : Type 0 where
+  pub long : length changed ≡ length image
+  pub before : take (at + 16) changed ≡ take (at + 16) image
+  pub after : drop (pastAt image at) changed ≡ drop (pastAt image at) image

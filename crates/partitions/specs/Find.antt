@@ -1,6 +1,6 @@
 -- The image check, a partition by its index or by its signature and name, and its data area.
 use Prim.Native.Nat.{ℕ, zero, suc, _+_, _-_}
-use mathlib.Core.Bool.{Bool, true, false, _&&_}
+use mathlib.Core.Bool.{Bool, true, false, _&&_, cond}
 use mathlib.Core.List.{List, [], _∷_, _++_}
 use lib.ListN.{length, take, drop, replicate}
 use lib.Dec.{eqb}
@@ -44,20 +44,16 @@ unfoldable pub matches : List ℕ → ℕ → List ℕ → ℕ → Bool
 matches image signature name at =
     eqb (headerAt image at .signature) signature && sameBytes (headerAt image at .name) (padded 12 name)
 
-abbrev pub pickFound : Bool → Found → Found → Found
-pickFound true a b = a
-pickFound false a b = b
-
 -- what was found before, or else the partition where it is wanted
 abbrev pub keepFirst : Found → Bool → Partition → Found
 keepFirst (At q) wanted p = At q
-keepFirst (Refused e) wanted p = pickFound wanted (At p) (Refused e)
+keepFirst (Refused e) wanted p = cond wanted (At p) (Refused e)
 
 -- the first in image order that matches; code 6 where none does
 unfoldable pub firstMatch : List ℕ → ℕ → List ℕ → List Partition → Found
 firstMatch image signature name [] = Refused NoPartition
 firstMatch image signature name (p ∷ ps) =
-    pickFound (matches image signature name (p .offset)) (At p) (firstMatch image signature name ps)
+    cond (matches image signature name (p .offset)) (At p) (firstMatch image signature name ps)
 
 unfoldable pub findBy : List ℕ → ℕ → List ℕ → Walk → Found
 findBy image signature name (covered ps) = firstMatch image signature name ps

@@ -1,11 +1,12 @@
 -- The walk of an image's partitions, step by step from byte 0.
 use Prim.Native.Nat.{ℕ, zero, suc, _+_, _%_}
-use mathlib.Core.Bool.{Bool, true, false, _&&_}
+use mathlib.Core.Bool.{Bool, true, false, _&&_, cond}
 use mathlib.Core.List.{List, [], _∷_}
 use lib.ListN.{length}
 use lib.Dec.{leb, eqb}
 use Rattle.errors.specs.declared.Error.{Error}
-use Rattle.errors.specs.declared.Error.the-variants.{ImageLength, PastEnd}
+use Rattle.errors.specs.declared.HeaderFault.the-variants.{PastEnd}
+use Rattle.errors.specs.declared.Error.the-variants.{ImageLength, BadHeader}
 use Rattle.header.specs.declared.Validity.{Validity}
 use Rattle.header.specs.declared.Validity.the-variants.{Valid, Invalid}
 use Rattle.header.specs.Header.{headerAt, validityAt, bytesOf}
@@ -31,13 +32,9 @@ abbrev pub stepBy : List ℕ → ℕ → Validity → Step
 stepBy image at Valid = Next (partitionOf image at) (record { at = pastOf image at })
 stepBy image at (Invalid e) = Broken e
 
-abbrev pub pickStep : Bool → Step → Step → Step
-pickStep true a b = a
-pickStep false a b = b
-
 -- what a step at an offset finds: the partition and its next offset, the end, or the rule that its header breaks
 unfoldable pub stepAt : List ℕ → ℕ → Step
-stepAt image at = pickStep (leb (length image) at) End (stepBy image at (validityAt image at))
+stepAt image at = cond (leb (length image) at) End (stepBy image at (validityAt image at))
 
 -- what a walk finds: the partitions up to the image's end, or the first rule that is broken
 pub data Walk : Type 0 where
@@ -55,14 +52,10 @@ onStep (Broken e) go = broken e
 
 -- the walk from an offset; the first number bounds its steps, and one more than the image's length is enough
 unfoldable pub walkFrom : ℕ → List ℕ → ℕ → Walk
-walkFrom zero image at = broken (PastEnd at)
+walkFrom zero image at = broken (BadHeader PastEnd at)
 walkFrom (suc n) image at = onStep (stepAt image at) (λ past. walkFrom n image past)
-
-abbrev pub pickWalk : Bool → Walk → Walk → Walk
-pickWalk true a b = a
-pickWalk false a b = b
 
 -- the walk of an image of an allowed length
 unfoldable pub walk : List ℕ → Walk
 walk image =
-    pickWalk (allowedLength (length image)) (walkFrom (suc (length image)) image 0) (broken ImageLength)
+    cond (allowedLength (length image)) (walkFrom (suc (length image)) image 0) (broken ImageLength)

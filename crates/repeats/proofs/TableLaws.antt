@@ -10,6 +10,7 @@ use lib.ListN.{length, getD, set, replicate, length-replicate, length-set}
 use lib.Seq.{getD-set-same, getD-set-other}
 use borrow.Author.Tests.{eqb-true, eqb-false}
 use Rattle.lists.proofs.Tests.{split}
+use Rattle.lists.proofs.ListLaws.{zeros-at}
 use Rattle.repeats.specs.Pieces.{nameAt, starts}
 use Rattle.repeats.specs.Table.{hashOf, rootOf, wayOf, Comes, here, there, Found, Table, Free, Walked}
 
@@ -127,11 +128,6 @@ module _ {l links starts : List ℕ} {k link : ℕ} (at : ℕ) (t : Table l link
     cover = λ i h. rw (length-set starts k at) (covered i h);
   }
 
-getD-zeros : (n b : ℕ) → _≡_ {A = ℕ} (getD (replicate n 0) b 0) 0
-getD-zeros zero b = refl
-getD-zeros (suc n) zero = refl
-getD-zeros (suc n) (suc b) = getD-zeros n b
-
 pub new-table : (l : List ℕ) (m : ℕ) (starts : List ℕ) → m ≡ 3 * length starts → 0 < length starts → length starts < 65536 → Table l (replicate m 0) starts 0
 new-table l m starts e p q = record {
   some = p;
@@ -139,7 +135,7 @@ new-table l m starts e p q = record {
   long = omega (arith, length-replicate {A = ℕ} m 0);
   room = omega arith;
   inside = λ i h. absurd (omega arith);
-  below = λ a j v. absurd (omega (arith, getD-zeros m a));
-  onward = λ a j v. absurd (omega (arith, getD-zeros m a));
+  below = λ a j v. absurd (omega (arith, zeros-at m a));
+  onward = λ a j v. absurd (omega (arith, zeros-at m a));
   cover = λ i h. absurd (omega arith);
 }

@@ -5,3 +5,4 @@ pub mod WrittenLaws
 pub mod PartLaws
 pub mod DecodeTurns
 pub mod StopLaws
+pub mod ShortLaws

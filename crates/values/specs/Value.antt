@@ -1,29 +1,19 @@
 -- How a value is stored: 0x01 to 0xFE stand for themselves, and 0xFF begins an escape, which stands for a run of 0x00 or of 0xFF.
 use Prim.Native.Nat.{ℕ, zero, suc, _+_, _-_, _/_, _%_}
-use mathlib.Core.Bool.{Bool, true, false, _&&_, _||_, not}
+use mathlib.Core.Bool.{Bool, true, false, _&&_, _||_, not, cond}
 use mathlib.Core.Path.{_≡_}
 use mathlib.Core.List.{List, [], _∷_, _++_}
 use lib.ListN.{length, take, drop, replicate}
 use lib.Dec.{leb, ltb, eqb}
-use Rattle.lists.specs.Pasted.{pasted, pickList}
+use Rattle.lists.specs.Pasted.{pasted}
 use Rattle.values.specs.declared.Written.{Written}
 use Rattle.values.specs.declared.Written.the-variants.{Length, NoRoom}
-
--- the first if the test holds, else the second: of numbers
-abbrev pub pickNumber : Bool → ℕ → ℕ → ℕ
-pickNumber true a b = a
-pickNumber false a b = b
-
--- the same of answers
-abbrev pub pickWritten : Bool → Written → Written → Written
-pickWritten true a b = a
-pickWritten false a b = b
 
 -- ---- from stored bytes to the value
 
 -- the byte that is repeated, by the top bit of an escape's second byte
 unfoldable pub runByte : ℕ → ℕ
-runByte c = pickNumber (ltb c 128) 0x00 0xFF
+runByte c = cond (ltb c 128) 0x00 0xFF
 
 -- the run that an escape stands for, by its second byte
 unfoldable pub run : ℕ → List ℕ
@@ -54,7 +44,7 @@ spelled s = spelledFrom false s
 
 -- the top bit of an escape's second byte, by the byte that is repeated
 unfoldable pub mark : ℕ → ℕ
-mark b = pickNumber (eqb b 0x00) 0 128
+mark b = cond (eqb b 0x00) 0 128
 
 -- k escapes of 127
 unfoldable pub fullEscapes : ℕ → ℕ → List ℕ
@@ -63,7 +53,7 @@ fullEscapes b (suc k) = 0xFF ∷ (mark b + 127) ∷ fullEscapes b k
 
 -- one escape for the rest, if there is a rest
 unfoldable pub restEscape : ℕ → ℕ → List ℕ
-restEscape b n = pickList (eqb n 0) [] (0xFF ∷ (mark b + n) ∷ [])
+restEscape b n = cond (eqb n 0) [] (0xFF ∷ (mark b + n) ∷ [])
 
 -- a run of n: escapes of 127, as many as fit, then one for the rest if there is a rest
 unfoldable pub runBytes : ℕ → ℕ → List ℕ
@@ -90,7 +80,7 @@ encode xs = encodeFrom 0x00 0 xs
 
 -- the answer: the length of the bytes, if there is room for them
 unfoldable pub writtenOf : List ℕ → ℕ → Written
-writtenOf l room = pickWritten (leb (length l) room) (Length (length l)) NoRoom
+writtenOf l room = cond (leb (length l) room) (Length (length l)) NoRoom
 
 -- ---- a part of a list
 
@@ -117,8 +107,8 @@ recoded area from to = encode (decode (part area from to))
 
 -- the answer: its length
 unfoldable pub recodedOf : List ℕ → ℕ → ℕ → ℕ → Written
-recodedOf area from to at = pickWritten (recodable area from to at) (Length (length (recoded area from to))) NoRoom
+recodedOf area from to at = cond (recodable area from to at) (Length (length (recoded area from to))) NoRoom
 
 -- the area afterwards: the canonical form is written at `at`
 unfoldable pub recodedIn : List ℕ → ℕ → ℕ → ℕ → List ℕ
-recodedIn area from to at = pickList (recodable area from to at) (pasted area at (recoded area from to)) area
+recodedIn area from to at = cond (recodable area from to at) (pasted area at (recoded area from to)) area

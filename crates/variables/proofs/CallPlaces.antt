@@ -1,7 +1,7 @@
 -- What the code's answers tell of the calls: a name refused, a fault of the area, its pairs, and the value that is read.
 use Prim.Native.Nat.{ℕ, zero, suc, _+_, _<_, _≤_}
 use mathlib.Core.Path.{_≡_, refl, sym, ap, _∙_}
-use mathlib.Core.Bool.{true, false}
+use mathlib.Core.Bool.{true, false, cond}
 use mathlib.Core.List.{List, []}
 use native.Mathlib.Omega.{arith}
 use lib.ListN.{length, length-append}
@@ -11,9 +11,11 @@ use Rattle.lists.specs.Pasted.{writtenIn}
 use Rattle.lists.specs.Bytes.{sameBytes}
 use Rattle.lists.proofs.Tests.{split, clash}
 use Rattle.errors.specs.declared.Error.{Error}
-use Rattle.errors.specs.declared.Error.the-variants.{BadName, NoVariable, NoRoom as NoAreaRoom, ShortBuffer}
+use Rattle.errors.specs.declared.AreaFault.{AreaFault}
+use Rattle.errors.specs.declared.Error.the-variants.{BadArea, BadName, NoVariable, NoRoom as NoAreaRoom, ShortBuffer}
 use Rattle.names.specs.declared.NameCheck.the-variants.{Good, Wrong}
-use Rattle.names.specs.Name.{nameCheck, isGood, goodName}
+use Rattle.names.specs.Name.{nameCheck}
+use Rattle.names.proofs.NameLaws.{split-check}
 use Rattle.values.specs.declared.Written.the-variants.{Length, NoRoom}
 use Rattle.values.specs.Value.{decode, part, writtenOf}
 use Rattle.values.proofs.WrittenLaws.{length-told, fits-told, no-room-told, pasted-in, kept-in}
@@ -22,11 +24,12 @@ use Rattle.pairs.specs.declared.Place.{Place}
 use Rattle.pairs.specs.declared.Place.the-variants.{At, None}
 use Rattle.pairs.specs.Scan.{Stand, pair, finish, cut, wrongName, wrongEscape, standAt}
 use Rattle.pairs.specs.Area.{Pair, pairsBytes, Parse, parsed, faulty, parse}
-use Rattle.variables.specs.Edits.{areaOf, setPair, Lookup, found, missing, lookup}
-use Rattle.variables.specs.Calls.{Call, set, count, read, Reply, done, refused, Outcome, refuse, edited, pickOutcome, wellNamed, setIn, readBy, callPairs, callBy, callArea}
+use Rattle.variables.specs.Edits.{areaBytes, setPair, Lookup, found, missing, lookup}
+use Rattle.variables.specs.Calls.{Action, readInto, Call, named, set, count, read, callCheck, Reply, done, refused, Outcome, refuse, edited, setIn, readBy, callPairs, callBy, callArea}
 use Rattle.pairs.specs.Places.{scannedOf, onFind, findFrom, findAt}
 use Rattle.variables.specs.Places.{namedScan, Sought, valueAt, pairRead}
 use Rattle.pairs.proofs.PairPlaces.{pair-here}
+use Rattle.variables.proofs.CallLaws.{check-named, check-count, call-misnamed, call-named, call-faulty, call-parsed, count-done}
 use Rattle.variables.proofs.FoundLaws.{parsed-ended, FoundAt, find-found, find-missing, lookup-split, found-stored}
 
 -- ---- the area's parse, by the code's scan
@@ -41,93 +44,82 @@ pub record PairsOf (p : Parse) (sought : Place) (n used : ℕ) (place : Place) :
 pub scanned-pairs : (p : Parse) (sought : Place) (n used : ℕ) (place : Place) → Pairs n used place ≡ scannedOf p sought → PairsOf p sought n used place
 unfolding scannedOf
 scanned-pairs (parsed ps) sought n used place e = record { pairs = ps; is = refl; counted = cc; long = cc; there = cc }
-scanned-pairs (faulty k) sought n used place e = clash cc
+scanned-pairs (faulty f at) sought n used place e = clash cc
 
-pub scanned-refused : (p : Parse) (sought : Place) (k : Error) → Refused k ≡ scannedOf p sought → p ≡ faulty k
+pub record FaultOf (p : Parse) (e : Error) : Type 0 where
+  pub fault : AreaFault
+  pub at : ℕ
+  pub is : p ≡ faulty fault at
+  pub error : e ≡ BadArea fault at
+
+pub scanned-refused : (p : Parse) (sought : Place) (e : Error) → Refused e ≡ scannedOf p sought → FaultOf p e
 unfolding scannedOf
-scanned-refused (parsed ps) sought k e = clash cc
-scanned-refused (faulty j) sought k e = cc
+scanned-refused (parsed ps) sought e q = clash cc
+scanned-refused (faulty f at) sought e q = record { fault = f; at = at; is = refl; error = cc }
 
--- ---- a call
-
-module _ (call : Call) (area : List ℕ) where
-  pub call-misnamed : wellNamed call ≡ false → callArea call area ≡ refuse BadName call area
-  unfolding callArea
-  call-misnamed n = rw n
-
-  pub call-faulty : wellNamed call ≡ true → (e : Error) → parse area ≡ faulty e → callArea call area ≡ refuse e call area
-  unfolding callArea
-  call-faulty n e h = rw (n, h)
-
-  pub call-parsed : wellNamed call ≡ true → (ps : List Pair) → parse area ≡ parsed ps → callArea call area ≡ callPairs call ps area
-  unfolding callArea
-  call-parsed n ps h = rw (n, h)
-
-pub good-told : (name : List ℕ) → Good ≡ nameCheck name → goodName name ≡ true
-unfolding goodName
-good-told name e = ap isGood (sym e)
-
-pub wrong-told : (name : List ℕ) (k : ℕ) → Wrong k ≡ nameCheck name → goodName name ≡ false
-unfolding goodName
-wrong-told name k e = ap isGood (sym e)
+-- a call that is not refused by its name is refused by the area's fault
+pub scan-faulty : (call : Call) (area : List ℕ) (sought : Place) (e : Error) → callCheck call ≡ Good → Refused e ≡ scannedOf (parse area) sought
+    → callArea call area ≡ refuse e call area
+scan-faulty call area sought e n q =
+    let f = scanned-refused (parse area) sought e q in
+    call-faulty call area n (f .fault) (f .at) (f .is) ∙ ap (λ (x : Error). refuse x call area) (sym (f .error))
 
 -- ---- the scan for a name, and the calls that take one
 
 -- what the pairs of such a scan tell
 pub record NamedPairs (area name : List ℕ) (n used : ℕ) (place : Place) : Type 0 where
-  pub good : goodName name ≡ true
+  pub good : nameCheck name ≡ Good
   pub scanned : PairsOf (parse area) (findAt area name) n used place
 
 module _ (area name : List ℕ) where
   pub scan-misnamed : (k : ℕ) → Wrong k ≡ nameCheck name → Refused BadName ≡ namedScan area name
   unfolding namedScan
-  scan-misnamed k w = rw (wrong-told name k w)
+  scan-misnamed k w = rw (sym w)
 
   pub scan-wellnamed : Good ≡ nameCheck name → scannedOf (parse area) (findAt area name) ≡ namedScan area name
   unfolding namedScan
-  scan-wellnamed g = rw (good-told name g)
+  scan-wellnamed g = rw (sym g)
 
   pub named-pairs : (n used : ℕ) (place : Place) → Pairs n used place ≡ namedScan area name → NamedPairs area name n used place
   unfolding namedScan
   named-pairs n used place e =
-      split (goodName name)
+      split-check (nameCheck name)
       (λ t. record { good = t; scanned = scanned-pairs (parse area) (findAt area name) n used place (rw t at e) })
-      (λ t. let f : Pairs n used place ≡ Refused BadName = rw t at e in clash cc)
+      (λ at t. let f : Pairs n used place ≡ Refused BadName = rw t at e in clash cc)
 
-module _ (call : Call) (name : List ℕ) (takes : wellNamed call ≡ goodName name) (area : List ℕ) where
-  pub call-refused : (k : Error) → Refused k ≡ namedScan area name → callArea call area ≡ refuse k call area
+module _ (name : List ℕ) (action : Action) (area : List ℕ) where
+  pub call-refused : (k : Error) → Refused k ≡ namedScan area name → callArea (named name action) area ≡ refuse k (named name action) area
   unfolding namedScan
   call-refused k e =
-      split (goodName name)
-      (λ t. call-faulty call area (takes ∙ t) k (scanned-refused (parse area) (findAt area name) k (rw t at e)))
-      (λ t. let f : Refused k ≡ Refused BadName = rw t at e in
+      let call : Call = named name action in
+      split-check (nameCheck name)
+      (λ t. scan-faulty call area (findAt area name) k (check-named name action ∙ t) (rw t at e))
+      (λ at t. let f : Refused k ≡ Refused BadName = rw t at e in
       let j : k ≡ BadName = cc in
-      call-misnamed call area (takes ∙ t) ∙ ap (λ (x : Error). refuse x call area) (sym j))
+      call-misnamed call area at (check-named name action ∙ t) ∙ ap (λ (x : Error). refuse x call area) (sym j))
 
-  pub call-scanned : (n used : ℕ) (place : Place) → Pairs n used place ≡ namedScan area name → callArea call area ≡ callBy (parse area) call area
-  unfolding callArea
-  call-scanned n used place e = rw (takes ∙ named-pairs area name n used place e .good)
+  pub call-scanned : (n used : ℕ) (place : Place) → Pairs n used place ≡ namedScan area name
+      → callArea (named name action) area ≡ callBy (parse area) (named name action) area
+  call-scanned n used place e = call-named (named name action) area (check-named name action ∙ named-pairs area name n used place e .good)
 
 -- A SET BY THE PAIRS THAT IT MAKES: where they lack room it is refused and the area stays
 pub set-makes : (name value : List ℕ) (ps qs : List Pair) (area : List ℕ) → setPair name value ps ≡ qs
     → callPairs (set name value) ps area
-    ≡ pickOutcome (ltb (length area) (length (pairsBytes qs) + 1)) (refuse NoAreaRoom (set name value) area) (edited (areaOf (length area) qs))
+    ≡ cond (ltb (length area) (length (pairsBytes qs) + 1)) (refuse NoAreaRoom (set name value) area) (edited (areaBytes (length area) qs))
 unfolding callPairs setIn
 set-makes name value ps qs area s =
-    ap (λ (l : List Pair). pickOutcome (ltb (length area) (length (pairsBytes l) + 1)) (refuse NoAreaRoom (set name value) area) (edited (areaOf (length area) l))) s
+    ap (λ (l : List Pair). cond (ltb (length area) (length (pairsBytes l) + 1)) (refuse NoAreaRoom (set name value) area) (edited (areaBytes (length area) l))) s
 
 -- ---- count
 
-pub count-pairs : (area : List ℕ) (sought : Place) (n used : ℕ) (place : Place) → Pairs n used place ≡ scannedOf (parse area) sought → done n ≡ callArea count area .reply
-unfolding wellNamed callPairs
+pub count-pairs : (area : List ℕ) (sought : Place) (n used : ℕ) (place : Place) → Pairs n used place ≡ scannedOf (parse area) sought
+    → done n ≡ callArea count area .reply
 count-pairs area sought n used place e =
     let p = scanned-pairs (parse area) sought n used place e in
-    ap done (p .counted) ∙ sym (ap (λ (o : Outcome). o .reply) (call-parsed count area refl (p .pairs) (p .is)))
+    ap done (p .counted) ∙ sym (ap (λ (o : Outcome). o .reply) (call-parsed count area check-count (p .pairs) (p .is) ∙ count-done (p .pairs) area))
 
 pub count-refused : (area : List ℕ) (sought : Place) (k : Error) → Refused k ≡ scannedOf (parse area) sought → refused k ≡ callArea count area .reply
-unfolding wellNamed
-count-refused area sought k e =
-    sym (ap (λ (o : Outcome). o .reply) (call-faulty count area refl k (scanned-refused (parse area) sought k e)))
+count-refused area sought k e = sym (ap (λ (o : Outcome). o .reply) (scan-faulty count area sought k check-count e))
 
 -- ---- read
 
@@ -213,14 +205,14 @@ module _ (area name : List ℕ) (n used : ℕ) (place : Place) (e : Pairs n used
   place-sought = record { name = name; is = named-pairs area name n used place e .scanned .there }
 
   pub read-pairs : (buffer : List ℕ) → pairRead place buffer area ≡ callArea (read name buffer) area
-  unfolding wellNamed callPairs pairRead
+  unfolding callPairs pairRead
   read-pairs buffer =
       let k = named-pairs area name n used place e in
       let p = k .scanned in
       ap (λ (x : Place). readBy (valueAt area x) [] buffer area) (p .there)
       ∙ ap (λ (l : Lookup). readBy l [] buffer area) (value-found area name (p .pairs) (p .is))
       ∙ nameless (lookup name (p .pairs))
-      ∙ sym (call-parsed (read name buffer) area (k .good) (p .pairs) (p .is))
+      ∙ sym (call-parsed (read name buffer) area (check-named name (readInto buffer) ∙ k .good) (p .pairs) (p .is))
     where
       nameless : (l : Lookup) → readBy l [] buffer area ≡ readBy l name buffer area
       nameless (found value) = refl

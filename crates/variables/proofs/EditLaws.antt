@@ -14,15 +14,20 @@ use Rattle.names.specs.Rules.{NameByte, NameRule}
 use Rattle.values.specs.Value.{decode}
 use Rattle.values.proofs.DecodeLaws.{spells-exactly, bytes-decode}
 use Rattle.values.proofs.EncodeLaws.{decode-encode, encode-again, spelled-encode, bytes-encode, encode-shortest}
+use Rattle.values.proofs.ShortLaws.{recode-short}
 use Rattle.pairs.specs.Area.{Pair, pairOf, pairBytes, pairsBytes, stands, parsed, parse}
-use Rattle.variables.specs.Edits.{areaOf, canonicalPair, setPair, removePair, normalizePairs, found, missing, lookup}
+use Rattle.variables.specs.Edits.{areaBytes, canonicalPair, setPair, removePair, normalizePairs, found, missing, lookup}
 use Rattle.pairs.proofs.ParseLaws.{Good, none, more, length-pairs, area-reads, bytes-pairs}
 use Rattle.pairs.proofs.StandsLaws.{names, stands-not, not-stands, stands-first, good-unseen}
 
 -- ---- the area that is written
 
-pub length-area : (n : ℕ) (ps : List Pair) → length (pairsBytes ps) + 1 ≤ n → length (areaOf n ps) ≡ n
-unfolding areaOf
+pub area-is : (n : ℕ) (ps : List Pair) → areaBytes n ps ≡ pairsBytes ps ++ 0x00 ∷ replicate (n - (length (pairsBytes ps) + 1)) 0x00
+unfolding areaBytes
+area-is n ps = refl
+
+pub length-area : (n : ℕ) (ps : List Pair) → length (pairsBytes ps) + 1 ≤ n → length (areaBytes n ps) ≡ n
+unfolding areaBytes
 length-area n ps h =
     omega (
       arith,
@@ -30,8 +35,8 @@ length-area n ps h =
       length-replicate {A = ℕ} (n - (length (pairsBytes ps) + 1)) 0x00,
     )
 
-pub parse-area : {ps : List Pair} (n : ℕ) → Good [] ps → parse (areaOf n ps) ≡ parsed ps
-unfolding areaOf
+pub parse-area : {ps : List Pair} (n : ℕ) → Good [] ps → parse (areaBytes n ps) ≡ parsed ps
+unfolding areaBytes
 parse-area {ps} n g = area-reads (replicate (n - (length (pairsBytes ps) + 1)) 0x00) g
 
 -- the ending 0x00 is the first of the zeros
@@ -40,8 +45,8 @@ zeros-first zero h = absurd (omega arith)
 zeros-first (suc n) h = let e : n ≡ suc n - 1 = omega arith in ap (λ (k : ℕ). 0x00 ∷ replicate k 0x00) e
 
 -- an area by its pairs and zeros
-pub area-zeros : (n : ℕ) (ps : List Pair) → length (pairsBytes ps) + 1 ≤ n → pairsBytes ps ++ replicate (n - length (pairsBytes ps)) 0x00 ≡ areaOf n ps
-unfolding areaOf
+pub area-zeros : (n : ℕ) (ps : List Pair) → length (pairsBytes ps) + 1 ≤ n → pairsBytes ps ++ replicate (n - length (pairsBytes ps)) 0x00 ≡ areaBytes n ps
+unfolding areaBytes
 area-zeros n ps h =
     let e : n - length (pairsBytes ps) - 1 ≡ n - (length (pairsBytes ps) + 1) = omega arith in
     ap (λ (l : List ℕ). pairsBytes ps ++ l)
@@ -64,6 +69,27 @@ place name (p ∷ ps) =
     split (sameBytes name (p .name))
     (λ t. there [] p ps refl (same-true name (p .name) t))
     (λ t. next-place p t (place name ps))
+
+-- no pairs
+pub set-none : (name value : List ℕ) → setPair name value [] ≡ canonicalPair name value ∷ []
+unfolding setPair
+set-none name value = refl
+
+pub remove-none : (name : List ℕ) → removePair name [] ≡ []
+unfolding removePair
+remove-none name = refl
+
+pub lookup-none : (name : List ℕ) → lookup name [] ≡ missing
+unfolding lookup
+lookup-none name = refl
+
+pub normalize-none : normalizePairs [] ≡ []
+unfolding normalizePairs
+normalize-none = refl
+
+pub normalize-more : (p : Pair) (ps : List Pair) → normalizePairs (p ∷ ps) ≡ canonicalPair (p .name) (decode (p .stored)) ∷ normalizePairs ps
+unfolding normalizePairs
+normalize-more p ps = refl
 
 -- the first pair has the name
 module _ (name : List ℕ) (p : Pair) (ps : List Pair) (t : sameBytes name (p .name) ≡ true) where
@@ -212,8 +238,8 @@ bytes-normalize (more {p = p} {ps = ps} n v s g) h =
     bytes-more (canonicalPair (p .name) (decode (p .stored))) (normalizePairs ps) n (bytes-encode (decode (p .stored)) (bytes-decode (p .stored) (b .0)))
     (bytes-normalize g (b .1))
 
-pub bytes-area : (n : ℕ) (ps : List Pair) → AllBytes (pairsBytes ps) → AllBytes (areaOf n ps)
-unfolding areaOf
+pub bytes-area : (n : ℕ) (ps : List Pair) → AllBytes (pairsBytes ps) → AllBytes (areaBytes n ps)
+unfolding areaBytes
 bytes-area n ps h =
     every-append (λ b. b < 256) (pairsBytes ps) (0x00 ∷ replicate (n - (length (pairsBytes ps) + 1)) 0x00) h
     (omega arith, every-replicate (λ b. b < 256) (n - (length (pairsBytes ps) + 1)) 0x00 (omega arith))
@@ -309,3 +335,35 @@ lookup-remove name (more {seen = seen} {p = p} {ps = ps} n v s g) =
     split (sameBytes name (p .name))
     (λ t. ap (lookup name) (remove-first name p ps t) ∙ lookup-missing name ps (good-unseen name g (stands-first name (p .name) seen t)))
     (λ t. ap (lookup name) (remove-next name p ps t) ∙ lookup-next name p (removePair name ps) t ∙ lookup-remove name g)
+
+-- ---- normalized pairs
+
+-- an edit of normalized pairs is the edit normalized
+pub normalize-set : (name value : List ℕ) (ps : List Pair) → normalizePairs (setPair name value ps) ≡ setPair name value (normalizePairs ps)
+unfolding setPair normalizePairs
+normalize-set name value [] = λ i. canonicalPair name (decode-encode value i) ∷ []
+normalize-set name value (p ∷ ps) =
+    let q : Pair = canonicalPair (p .name) (decode (p .stored)) in
+    split (sameBytes name (p .name))
+    (λ t. ap normalizePairs (set-first name p ps t value) ∙ (λ i. canonicalPair name (decode-encode value i) ∷ normalizePairs ps)
+    ∙ sym (set-first name q (normalizePairs ps) t value))
+    (λ t. ap normalizePairs (set-next name p ps t value) ∙ ap (λ (l : List Pair). q ∷ l) (normalize-set name value ps)
+    ∙ sym (set-next name q (normalizePairs ps) t value))
+
+pub normalize-remove : (name : List ℕ) (ps : List Pair) → normalizePairs (removePair name ps) ≡ removePair name (normalizePairs ps)
+unfolding removePair normalizePairs
+normalize-remove name [] = refl
+normalize-remove name (p ∷ ps) =
+    let q : Pair = canonicalPair (p .name) (decode (p .stored)) in
+    split (sameBytes name (p .name))
+    (λ t. ap normalizePairs (remove-first name p ps t) ∙ sym (remove-first name q (normalizePairs ps) t))
+    (λ t. ap normalizePairs (remove-next name p ps t) ∙ ap (λ (l : List Pair). q ∷ l) (normalize-remove name ps)
+    ∙ sym (remove-next name q (normalizePairs ps) t))
+
+-- they take no more room
+pub normalize-short : {seen : List (List ℕ)} {ps : List Pair} → Good seen ps → length (pairsBytes (normalizePairs ps)) ≤ length (pairsBytes ps)
+unfolding normalizePairs
+normalize-short none = omega arith
+normalize-short (more {p = p} {ps = ps} n v s g) =
+    let q : Pair = canonicalPair (p .name) (decode (p .stored)) in
+    omega (arith, length-pairs p ps, length-pairs q (normalizePairs ps), recode-short (p .stored) v, normalize-short g)

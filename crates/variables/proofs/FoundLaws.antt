@@ -1,5 +1,6 @@
 -- What the search for a name finds in a parsed area: the pair before which the edits and the lookup split the list.
 use Prim.Native.Nat.{ℕ, zero, suc, _+_, _-_, _<_}
+use mathlib.Core.Bool.{cond}
 use mathlib.Core.Path.{_≡_, refl, sym, ap, _∙_, subst}
 use mathlib.Core.List.{List, [], _∷_, _++_, append-assoc}
 use native.Mathlib.Omega.{arith}
@@ -8,7 +9,7 @@ use lib.Seq.{take-at, drop-at}
 use Rattle.lists.specs.Bytes.{sameBytes}
 use Rattle.lists.proofs.ByteLaws.{same-refl, same-true}
 use Rattle.lists.proofs.Tests.{split, clash}
-use Rattle.errors.specs.declared.Error.the-variants.{Repeated}
+use Rattle.errors.specs.declared.AreaFault.the-variants.{Repeated}
 use Rattle.repeats.specs.Pieces.{stands}
 use Rattle.values.specs.Value.{decode, part}
 use Rattle.pairs.specs.declared.Place.{Place}
@@ -16,7 +17,7 @@ use Rattle.pairs.specs.declared.Place.the-variants.{At, None}
 use Rattle.pairs.specs.Scan.{Stand, pair, finish, cut, wrongName, wrongEscape, standAt}
 use Rattle.pairs.specs.Area.{Pair, pairOf, pairBytes, pairsBytes, Parse, parsed, faulty, firstPair, onStand, parseFrom, parse}
 use Rattle.variables.specs.Edits.{canonicalPair, setPair, removePair, found, missing, lookup}
-use Rattle.pairs.specs.Places.{pickPlace, findFrom, findAt}
+use Rattle.pairs.specs.Places.{findFrom, findAt}
 use Rattle.pairs.proofs.PairPlaces.{pair-here}
 use Rattle.pairs.proofs.PairRuns.{PairRun, none, more, pair-bytes, run-bytes}
 use Rattle.pairs.proofs.ParseLaws.{pairs-append, length-pair}
@@ -45,7 +46,7 @@ parsed-from (suc n) seen at past l ps e = go (standAt l) refl e (parsed-from n)
 
     by : Rest → (name stored next : List ℕ) → standAt l ≡ pair name stored next → (x : Parse) → parseFrom n (name ∷ seen) (at + length name + length stored + 2) past next ≡ x
         → firstPair (pairOf name stored) x ≡ parsed ps → Ended ps l
-    by ih name stored next s (faulty k) q f = clash cc
+    by ih name stored next s (faulty g k) q f = clash cc
     by ih name stored next s (parsed qs) q f =
         ended-more ps qs l name stored next s f (ih (name ∷ seen) (at + length name + length stored + 2) past next qs q)
 
@@ -55,7 +56,7 @@ parsed-from (suc n) seen at past l ps e = go (standAt l) refl e (parsed-from n)
     go (wrongName k) s f ih = clash cc
     go (wrongEscape k) s f ih = clash cc
     go (pair name stored next) s f ih = split (stands name seen)
-        (λ t. let g : faulty (Repeated at) ≡ parsed ps = rw t at f in clash cc)
+        (λ t. let g : faulty Repeated at ≡ parsed ps = rw t at f in clash cc)
         (λ t. by ih name stored next s (parseFrom n (name ∷ seen) (at + length name + length stored + 2) past next) refl (rw t at f))
 
 pub parsed-ended : (area : List ℕ) (ps : List Pair) → parse area ≡ parsed ps → Ended ps area
@@ -66,7 +67,7 @@ parsed-ended area ps e = parsed-from (suc (length area)) [] 0 (length area) area
 unfoldable placeIn : List ℕ → ℕ → List Pair → Place
 placeIn name at [] = None
 placeIn name at (p ∷ ps) =
-    pickPlace (sameBytes name (p .name)) (At at (at + length (p .name)) (at + length (p .name) + 1 + length (p .stored)))
+    cond (sameBytes name (p .name)) (At at (at + length (p .name)) (at + length (p .name) + 1 + length (p .stored)))
     (placeIn name (at + length (p .name) + length (p .stored) + 2) ps)
 
 find-run : (name : List ℕ) (n at : ℕ) {ps : List Pair} {l rest : List ℕ} → PairRun ps l rest → standAt rest ≡ finish → length l < n
@@ -78,7 +79,7 @@ find-run name (suc n) at (more {name = m} {stored} {l} {next} {ps = ps} e r) s h
     let k : length l ≡ length m + length stored + 2 + length next =
     ap length (pair-here l m stored next e .is) ∙ simp length-append (omega arith) in
     rw e
-    (ap (pickPlace (sameBytes name m) (At at (at + length m) (at + length m + 1 + length stored)))
+    (ap (cond (sameBytes name m) (At at (at + length m) (at + length m + 1 + length stored)))
     (find-run name n (at + length m + length stored + 2) r s (omega arith)))
 
 find-parsed : (area name : List ℕ) (ps : List Pair) → parse area ≡ parsed ps → findAt area name ≡ placeIn name 0 ps

@@ -14,7 +14,7 @@ use Rattle.values.specs.Rules.{Spells, Canonical}
 use Rattle.values.proofs.DecodeLaws.{spells-exactly, spells-spelled, bytes-decode}
 use Rattle.values.proofs.CanonicalLaws.{canonical-exactly}
 use Rattle.pairs.specs.Area.{Pair, pairOf, pairBytes, pairsBytes, stands, parsed, parse}
-use Rattle.variables.specs.Edits.{areaOf, canonicalPair, setPair, removePair, normalizePairs}
+use Rattle.variables.specs.Edits.{areaBytes, canonicalPair, setPair, removePair, normalizePairs}
 use Rattle.pairs.specs.Rules.{Entry, In, Pairs}
 use Rattle.variables.specs.Rules.{Zeroed, zeroed, pairBy, SetLeaves, replaces, adds, RemoveLeaves, removes, CanonicalPairs, NormalizeLeaves, normalizes}
 use Rattle.pairs.proofs.ParseLaws.{Read, area-read, pairs-append, read-room, every-left, every-right, bytes-pairs, bytes-read}
@@ -55,8 +55,8 @@ alone ps a b =
 -- ---- 0x00 to the end
 
 pub zeroed-area : {n : ℕ} {kept area : List ℕ} (ps : List Pair) → kept ≡ pairsBytes ps → Zeroed n kept area
-    → (length (pairsBytes ps) + 1 ≤ n) × (area ≡ areaOf n ps)
-unfolding areaOf
+    → (length (pairsBytes ps) + 1 ≤ n) × (area ≡ areaBytes n ps)
+unfolding areaBytes
 zeroed-area {n} {kept} {area} ps q (zeroed k e l) =
     let f : area ≡ pairsBytes ps ++ 0x00 ∷ replicate k 0x00 = e ∙ ap (λ (s : List ℕ). s ++ 0x00 ∷ replicate k 0x00) q in
     let g : length area ≡ length (pairsBytes ps) + (1 + k) =
@@ -64,8 +64,8 @@ zeroed-area {n} {kept} {area} ps q (zeroed k e l) =
     let m : k ≡ n - (length (pairsBytes ps) + 1) = omega arith in
     (omega arith, f ∙ ap (λ (j : ℕ). pairsBytes ps ++ 0x00 ∷ replicate j 0x00) m)
 
-pub area-zeroed : {n : ℕ} {kept : List ℕ} (ps : List Pair) → kept ≡ pairsBytes ps → length (pairsBytes ps) + 1 ≤ n → Zeroed n kept (areaOf n ps)
-unfolding areaOf
+pub area-zeroed : {n : ℕ} {kept : List ℕ} (ps : List Pair) → kept ≡ pairsBytes ps → length (pairsBytes ps) + 1 ≤ n → Zeroed n kept (areaBytes n ps)
+unfolding areaBytes
 area-zeroed {n} {kept} ps q h =
     zeroed (n - (length (pairsBytes ps) + 1)) (ap (λ (s : List ℕ). s ++ 0x00 ∷ replicate (n - (length (pairsBytes ps) + 1)) 0x00) (sym q)) (length-area n ps h)
 
@@ -123,7 +123,7 @@ Fits n ps = length (pairsBytes ps) + 1 ≤ n
 
 module _ (name value : List ℕ) (n : NameRule name) (bv : AllBytes value) where
   set-leaves-is : {area area′ : List ℕ} {ps : List Pair} → Read area ps → SetLeaves name value area area′
-      → Fits (length area) (setPair name value ps) × (area′ ≡ areaOf (length area) (setPair name value ps))
+      → Fits (length area) (setPair name value ps) × (area′ ≡ areaBytes (length area) (setPair name value ps))
   set-leaves-is r (replaces {before = before} {old = old} {after = after} {new = new} padding b q v c w e z) =
       let k = parts r name padding n b q v c e in
       let s = ap (setPair name value) (k .is) ∙ set-there value (k .first) (pairOf name old) (k .last) (k .fresh) refl in
@@ -172,7 +172,7 @@ fresh-entries name ps h = in-not name (entriesOf ps) (ap (stands name) (sym (nam
 
 module _ {name : List ℕ} (value : List ℕ) (bv : AllBytes value) where
   is-set-leaves : {area : List ℕ} {ps : List Pair} → AllBytes area → Read area ps → Place name ps → Fits (length area) (setPair name value ps)
-      → SetLeaves name value area (areaOf (length area) (setPair name value ps))
+      → SetLeaves name value area (areaBytes (length area) (setPair name value ps))
   is-set-leaves {area} b r (there before p after h e) f =
       let k = around before p after b r in
       let s = set-there value before p after h e in
@@ -186,7 +186,7 @@ module _ {name : List ℕ} (value : List ℕ) (bv : AllBytes value) where
 -- WHAT A SET LEAVES, where the name keeps the rule
 pub set-leaves-exactly : (name value area area′ : List ℕ) (ps : List Pair) → NameRule name → AllBytes value → AllBytes area → parse area ≡ parsed ps
     → SetLeaves name value area area′
-    ↔ ((length (pairsBytes (setPair name value ps)) + 1 ≤ length area) × (area′ ≡ areaOf (length area) (setPair name value ps)))
+    ↔ ((length (pairsBytes (setPair name value ps)) + 1 ≤ length area) × (area′ ≡ areaBytes (length area) (setPair name value ps)))
 set-leaves-exactly name value area area′ ps n bv b e =
     let r = area-read area ps e in
     (set-leaves-is name value n bv r, λ x. rw (x .1) (is-set-leaves value bv b r (place name ps) (x .0)))
@@ -194,7 +194,7 @@ set-leaves-exactly name value area area′ ps n bv b e =
 -- ---- a removal
 
 remove-leaves-is : {name area area′ : List ℕ} {ps : List Pair} → NameRule name → Read area ps → RemoveLeaves name area area′
-    → (stands name (names ps) ≡ true) × (area′ ≡ areaOf (length area) (removePair name ps))
+    → (stands name (names ps) ≡ true) × (area′ ≡ areaBytes (length area) (removePair name ps))
 remove-leaves-is {name} {ps = ps} n r (removes {before = before} {old = old} {after = after} padding b q v c e z) =
     let k = parts r name padding n b q v c e in
     let s = ap (removePair name) (k .is) ∙ remove-there (k .first) (pairOf name old) (k .last) (k .fresh) refl in (
@@ -203,7 +203,7 @@ remove-leaves-is {name} {ps = ps} n r (removes {before = before} {old = old} {af
     )
 
 is-remove-leaves : {name area : List ℕ} {ps : List Pair} → AllBytes area → Read area ps → Place name ps → stands name (names ps) ≡ true
-    → RemoveLeaves name area (areaOf (length area) (removePair name ps))
+    → RemoveLeaves name area (areaBytes (length area) (removePair name ps))
 is-remove-leaves {name} {area} b r (there before p after h e) t =
     let k = around before p after b r in
     removes {old = p .stored} (k .padding) (k .first) (fresh-entries name before h) (k .spells) (k .last)
@@ -214,7 +214,7 @@ is-remove-leaves b r (nowhere h) t = clash (cc)
 
 -- WHAT A REMOVAL LEAVES, where the name keeps the rule
 pub remove-leaves-exactly : (name area area′ : List ℕ) (ps : List Pair) → NameRule name → AllBytes area → parse area ≡ parsed ps
-    → RemoveLeaves name area area′ ↔ ((stands name (names ps) ≡ true) × (area′ ≡ areaOf (length area) (removePair name ps)))
+    → RemoveLeaves name area area′ ↔ ((stands name (names ps) ≡ true) × (area′ ≡ areaBytes (length area) (removePair name ps)))
 remove-leaves-exactly name area area′ ps n b e =
     let r = area-read area ps e in
     (remove-leaves-is n r, λ x. rw (x .1) (is-remove-leaves b r (place name ps) (x .0)))
@@ -237,7 +237,7 @@ pairs-canonical (p ∷ ps) b =
     CanonicalPairs.more (canonical-exactly (decode (p .stored)) (encode (decode (p .stored))) (bytes-decode (p .stored) (k .0)) .1 refl) (pairs-canonical ps (k .1))
 
 normalize-leaves-is : {area area′ : List ℕ} {ps : List Pair} → AllBytes area → parse area ≡ parsed ps → NormalizeLeaves area area′
-    → area′ ≡ areaOf (length area) (normalizePairs ps)
+    → area′ ≡ areaBytes (length area) (normalizePairs ps)
 normalize-leaves-is {area} {area′} {ps} b e (normalizes {es = es} {s = s} w c z) =
     let k = parse-exactly area es b .1 w in
     let q : k .0 ≡ ps = cc (k .1) in
@@ -246,7 +246,7 @@ normalize-leaves-is {area} {area′} {ps} b e (normalizes {es = es} {s = s} w c 
 
 -- WHAT NORMALIZING LEAVES
 pub normalize-leaves-exactly : (area area′ : List ℕ) (ps : List Pair) → AllBytes area → parse area ≡ parsed ps
-    → NormalizeLeaves area area′ ↔ (area′ ≡ areaOf (length area) (normalizePairs ps))
+    → NormalizeLeaves area area′ ↔ (area′ ≡ areaBytes (length area) (normalizePairs ps))
 normalize-leaves-exactly area area′ ps b e =
     let r = area-read area ps e in
     let bp = bytes-read b r in (

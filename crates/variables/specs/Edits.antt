@@ -8,8 +8,8 @@ use Rattle.values.specs.Value.{decode, encode}
 use Rattle.pairs.specs.Area.{Pair, pairOf, pairsBytes}
 
 -- the pairs, the ending 0x00, and 0x00 to the area's end
-unfoldable pub areaOf : ℕ → List Pair → List ℕ
-areaOf size ps = pairsBytes ps ++ 0x00 ∷ replicate (size - (length (pairsBytes ps) + 1)) 0x00
+unfoldable pub areaBytes : ℕ → List Pair → List ℕ
+areaBytes size ps = pairsBytes ps ++ 0x00 ∷ replicate (size - (length (pairsBytes ps) + 1)) 0x00
 
 -- a new pair is in canonical form
 abbrev pub canonicalPair : List ℕ → List ℕ → Pair

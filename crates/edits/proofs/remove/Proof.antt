@@ -2,8 +2,6 @@
 use mathlib.Core.Path.{refl, sym, _∙_}
 use denote.Ref.{now}
 use Rattle.variables.specs.Calls as Calls
-use Rattle.variables.specs.Calls.{wellNamed}
-use Rattle.variables.specs.Places.{editReply}
 use Rattle.variables.proofs.CallPlaces.{call-refused, call-scanned}
 use Rattle.edits.proofs.ReplaceLaws.{scan-used, told-as}
 use borrow.Author.Needs.{needs}
@@ -29,26 +27,24 @@ same-length : tie.Need-same-length
 same-length c = search needs
 
 returns : tie.Need-returns
-unfolding editReply wellNamed
 returns c =
     let g = c .before .e .given in
     let s = c .before .before .before in
     let a = s .before .before .before .before .args in
-    let f = call-refused (Calls.remove (now (a .name))) (now (a .name)) refl (now (a .area)) (g .0 .0) (sym (g .1) ∙ s .scan-named .ensures) in
+    let f = call-refused (now (a .name)) Calls.removal (now (a .area)) (g .0 .0) (sym (g .1) ∙ s .scan-named .ensures) in
     told-as (sym f) (refl, refl)
 
 same-length-2 : tie.Need-same-length-2
 same-length-2 c = search needs
 
 returns-2 : tie.Need-returns-2
-unfolding wellNamed
 returns-2 c =
     let r = c .before .before in
     let p = r .before .before .before in
     let g = p .used .given in
     let s = p .before .before in
     let a = s .before .before .before .before .args in
-    let f = call-scanned (Calls.remove (now (a .name))) (now (a .name)) refl (now (a .area)) (g .0 .0) (g .0 .1 .0) (g .0 .1 .1 .0) (sym (g .1) ∙ s .scan-named .ensures) in
+    let f = call-scanned (now (a .name)) Calls.removal (now (a .area)) (g .0 .0) (g .0 .1 .0) (g .0 .1 .1 .0) (sym (g .1) ∙ s .scan-named .ensures) in
     told-as (sym f) (r .remove-pair .ensures .0, r .remove-pair .ensures .1)
 
 pub remove-spec : {M : Type 1} → statement M

@@ -2,7 +2,6 @@
 use mathlib.Core.Path.{sym, _∙_}
 use native.Mathlib.Omega.{arith}
 use denote.Ref.{now}
-use Rattle.variables.specs.Places.{editReply}
 use Rattle.edits.proofs.ReplaceLaws.{found-bounds, remove-found, remove-missing}
 use borrow.Author.Needs.{needs}
 use Rattle.edits.proofs.remove_pair.Statement.{statement}
@@ -33,7 +32,6 @@ same-length : tie.Need-same-length
 same-length c = search needs
 
 returns : tie.Need-returns
-unfolding editReply
 returns c =
     let r = c .before .before in
     let k = r .before .before in
@@ -43,7 +41,6 @@ returns c =
     (h .0, r .shift-tail .ensures ∙ h .1)
 
 returns-2 : tie.Need-returns-2
-unfolding editReply
 returns-2 c =
     let s = c .before .before .before .before in
     remove-missing (now (s .args .area)) (s .args .used) (s .pre .0) (now (s .args .name)) (sym (c .enum-told .given .1) ∙ s .pre .1)

@@ -8,7 +8,6 @@ use denote.Ref.{now}
 use Rattle.lists.specs.Pasted.{pasted}
 use Rattle.pairs.specs.Area.{pairBytes}
 use Rattle.variables.specs.Edits.{canonicalPair}
-use Rattle.variables.specs.Places.{editReply}
 use Rattle.edits.specs.Replaced.{tailShifted}
 use Rattle.pairs.proofs.ParseLaws.{length-pair}
 use Rattle.edits.proofs.ReplaceLaws.{no-room, has-room}
@@ -32,7 +31,6 @@ sub-room-4 : tie.Need-sub-room-4
 sub-room-4 c = search needs
 
 returns : tie.Need-returns
-unfolding editReply
 returns c =
     let l = c .before in
     let a = l .before .before .before .before .args in
@@ -43,7 +41,6 @@ add-if2 : tie.Need-add-if2
 add-if2 c = search needs
 
 returns-2 : tie.Need-returns-2
-unfolding editReply
 returns-2 c =
     let l = c .before .before in
     let a = l .before .before .before .before .args in
@@ -69,7 +66,6 @@ same-length : tie.Need-same-length
 same-length c = search needs
 
 returns-3 : tie.Need-returns-3
-unfolding editReply
 returns-3 c =
     let p = c .before .before in
     let t = p .before .before .before .before in

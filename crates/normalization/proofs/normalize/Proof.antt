@@ -1,7 +1,6 @@
 -- `normalization::normalize` meets its contract: a fault refuses the call before anything is written.
 use mathlib.Core.Path.{sym, _∙_}
 use denote.Ref.{now}
-use Rattle.variables.specs.Places.{editReply}
 use Rattle.normalization.proofs.NormalizeLaws.{scan-parses, normalize-refused, normalize-done}
 use borrow.Author.Needs.{needs}
 use Rattle.normalization.proofs.normalize.Statement.{statement}
@@ -40,7 +39,6 @@ same-length : tie.Need-same-length
 same-length c = search needs
 
 returns : tie.Need-returns
-unfolding editReply
 returns c =
     let f = c .before .before in
     let n = f .before .before .before .before in
@@ -53,7 +51,6 @@ same-length-2 : tie.Need-same-length-2
 same-length-2 c = search needs
 
 returns-2 : tie.Need-returns-2
-unfolding editReply
 returns-2 c =
     let s = c .before .before .before in
     normalize-refused (now (s .before .before .before .before .args .area)) _ (c .before .e .given .0 .0) (sym (c .before .e .given .1) ∙ s .scan .ensures)

@@ -3,12 +3,10 @@ use Prim.Native.Nat.{_+_, _≤_}
 use native.Mathlib.Omega.{arith}
 use lib.ListN.{length}
 use denote.Ref.{now}
-use Rattle.partitions.proofs.AreaLaws.{found-part}
-use Rattle.nvram.proofs.CodeLaws.{span-found, span-refused}
+use Rattle.nvram.proofs.CodeLaws.{span-part, span-found, span-refused}
 use borrow.Author.Needs.{needs}
 use Rattle.nvram.proofs.common_area.Statement.{statement}
 use Rattle.nvram.proofs.common_area.Tie as tie
-use Rattle.nvram.specs.Common.{common}
 
 -- the partition that was found stands in the image
 inside : (b : tie.After-bytes) → (16 ≤ b .bytes .result .0)
@@ -16,7 +14,8 @@ inside : (b : tie.After-bytes) → (16 ≤ b .bytes .result .0)
 inside b =
     let g = b .before .before .p .given in
     let f = b .before .before .before .before in
-    found-part (now (f .before .before .before .args .image)) 0x70 common (f .find .result) (f .find .ensures) (g .0 .0) (g .1) (b .bytes .result) (b .bytes .ensures)
+    let image = now (f .before .before .before .args .image) in
+    span-part image (f .find .result) (f .find .ensures) (g .0 .0) (g .1) (b .bytes .result) (b .bytes .ensures)
 
 slice-aggregate-find : tie.Need-slice-aggregate-find
 slice-aggregate-find c = search needs
@@ -44,13 +43,14 @@ returns c =
     let b = c .before .before .before in
     let g = b .before .before .p .given in
     let f = b .before .before .before .before in
-    span-found (now (c .before .before .before .before .before .before .before .before .before .before .args .image)) 0x70 common (f .find .result) (f .find .ensures) (g .0 .0) (g .1) (b .bytes .result) (b .bytes .ensures)
+    let image = now (f .before .before .before .args .image) in
+    span-found image (f .find .result) (f .find .ensures) (g .0 .0) (g .1) (b .bytes .result) (b .bytes .ensures)
 
 returns-2 : tie.Need-returns-2
 returns-2 c =
     let g = c .before .e .given in
     let f = c .before .before .before in
-    span-refused (now (c .before .before .before .before .before .before .args .image)) 0x70 common (f .find .result) (f .find .ensures) (g .0 .0) (g .1)
+    span-refused (now (f .before .before .before .args .image)) (f .find .result) (f .find .ensures) (g .0 .0) (g .1)
 
 pub common-area-spec : {M : Type 1} → statement M
 common-area-spec =

@@ -1,7 +1,8 @@
 -- `nvram::normalize` meets its contract, by where the area stands and what the call on it answers and leaves.
 use native.Mathlib.Omega.{arith}
 use denote.Ref.{now}
-use Rattle.nvram.proofs.CodeLaws.{AreaAt, span-at, span-not, offset-at, edit-answer, edit-image, image-not, a-normalize, normalize-not}
+use Rattle.variables.proofs.CallLaws.{a-normalize}
+use Rattle.nvram.proofs.CodeLaws.{AreaAt, span-at, span-not, offset-at, edit-answer, edit-image, image-not, normalize-not}
 use borrow.Author.Needs.{needs}
 use Rattle.nvram.proofs.normalize.Statement.{statement}
 use Rattle.nvram.proofs.normalize.Tie as tie

@@ -1,7 +1,8 @@
 -- `nvram::remove` meets its contract, by where the area stands and what the call on it answers and leaves.
 use native.Mathlib.Omega.{arith}
 use denote.Ref.{now}
-use Rattle.nvram.proofs.CodeLaws.{AreaAt, span-at, span-not, offset-at, edit-answer, edit-image, image-not, a-remove, remove-not}
+use Rattle.variables.proofs.CallLaws.{a-remove}
+use Rattle.nvram.proofs.CodeLaws.{AreaAt, span-at, span-not, offset-at, edit-answer, edit-image, image-not, remove-not}
 use borrow.Author.Needs.{needs}
 use Rattle.nvram.proofs.remove.Statement.{statement}
 use Rattle.nvram.proofs.remove.Tie as tie

@@ -1,7 +1,8 @@
 -- `nvram::set` meets its contract, by where the area stands and what the call on it answers and leaves.
 use native.Mathlib.Omega.{arith}
 use denote.Ref.{now}
-use Rattle.nvram.proofs.CodeLaws.{AreaAt, span-at, span-not, offset-at, edit-answer, edit-image, image-not, a-set, set-not}
+use Rattle.variables.proofs.CallLaws.{a-set}
+use Rattle.nvram.proofs.CodeLaws.{AreaAt, span-at, span-not, offset-at, edit-answer, edit-image, image-not, set-not}
 use borrow.Author.Needs.{needs}
 use Rattle.nvram.proofs.set.Statement.{statement}
 use Rattle.nvram.proofs.set.Tie as tie

@@ -1,7 +1,7 @@
 -- `nvram_count` meets its contract: each output is the field of the answer.
 use mathlib.Core.Path.{_∙_}
 use mathlib.Core.List.{[]}
-use Rattle.nvram.specs.Calls.{withBuffer, countAnswer}
+use Rattle.nvram.specs.Calls.{withBuffer}
 use borrow.Author.Needs.{needs}
 use Rattle.nvram_c.proofs.nvram_count.Statement.{statement}
 use Rattle.nvram_c.proofs.nvram_count.Tie as tie
@@ -17,7 +17,6 @@ answer-requires : tie.Need-answer-requires
 answer-requires c κs = search needs
 
 returns : tie.Need-returns
-unfolding countAnswer
 returns c =
     let e = (λ i. withBuffer (c .answer .ensures i) []) ∙ c .before .count .ensures in
     (λ i. e i .code, (λ i. e i .offset, λ i. e i .amount))

@@ -1,7 +1,7 @@
 -- `nvram_normalize` meets its contract: each output is the field of the answer.
 use mathlib.Core.Path.{_∙_}
 use mathlib.Core.List.{[]}
-use Rattle.nvram.specs.Calls.{withBuffer, editAnswer}
+use Rattle.nvram.specs.Calls.{withBuffer}
 use borrow.Author.Needs.{needs}
 use Rattle.nvram_c.proofs.nvram_normalize.Statement.{statement}
 use Rattle.nvram_c.proofs.nvram_normalize.Tie as tie
@@ -20,7 +20,6 @@ same-length : tie.Need-same-length
 same-length c = search needs
 
 returns : tie.Need-returns
-unfolding editAnswer
 returns c =
     let e = (λ i. withBuffer (c .answer .ensures i) []) ∙ c .before .before .before .normalize .ensures .0 in
     (λ i. e i .code, (λ i. e i .offset, c .before .before .before .normalize .ensures .1))

@@ -1,6 +1,6 @@
 -- `nvram_read` meets its contract: each output is the field of the answer.
 use mathlib.Core.Path.{_∙_}
-use Rattle.nvram.specs.Calls.{withBuffer, readAnswer}
+use Rattle.nvram.specs.Calls.{withBuffer}
 use borrow.Author.Needs.{needs}
 use Rattle.nvram_c.proofs.nvram_read.Statement.{statement}
 use Rattle.nvram_c.proofs.nvram_read.Tie as tie
@@ -19,7 +19,6 @@ same-length : tie.Need-same-length
 same-length c = search needs
 
 returns : tie.Need-returns
-unfolding readAnswer
 returns c =
     let told = c .before .before .before .read .ensures in
     let e = (λ i. withBuffer (c .answer .ensures i) (told 0 .buffer)) ∙ told in

@@ -16,16 +16,25 @@ first-repeat-requires c κs = search needs
 enum-known-later : tie.Need-enum-known-later
 enum-known-later c = search needs
 
+refused-requires : tie.Need-refused-requires
+refused-requires c κs = search needs
+
 enum-told : tie.Need-enum-told
 enum-told c = search needs
 
 returns : tie.Need-returns
 unfolding orRepeat
-returns c = ap (λ (z : Repeat). orRepeat z (c .before .before .before .before .before .before .args .out)) (sym (c .before .later .given .1) ∙ c .before .before .before .first-repeat .ensures)
+returns c =
+    let k = c .before .before in
+    let f = k .before .before in
+    c .refused .ensures
+    ∙ ap (λ (z : Repeat). orRepeat z (f .before .before .before .args .out)) (sym (k .later .given .1) ∙ f .first-repeat .ensures)
 
 returns-2 : tie.Need-returns-2
 unfolding orRepeat
-returns-2 c = ap (λ (z : Repeat). orRepeat z (c .before .before .before .before .before .args .out)) (sym (c .enum-told .given .1) ∙ c .before .before .first-repeat .ensures)
+returns-2 c =
+    let f = c .before .before in
+    ap (λ (z : Repeat). orRepeat z (f .before .before .before .args .out)) (sym (c .enum-told .given .1) ∙ f .first-repeat .ensures)
 
 pub or-repeat-spec : {M : Type 1} → statement M
 or-repeat-spec =
@@ -34,6 +43,7 @@ or-repeat-spec =
     slice-aggregate-first-repeat
     first-repeat-requires
     enum-known-later
+    refused-requires
     enum-told
     returns
     returns-2)

@@ -1,6 +1,5 @@
 -- `variables::count` meets its contract, by the scan of the area.
 use mathlib.Core.Path.{sym, _∙_}
-use Rattle.variables.specs.Places.{countReply}
 use Rattle.variables.proofs.CallPlaces.{count-pairs, count-refused}
 use borrow.Author.Needs.{needs}
 use Rattle.variables.proofs.count.Statement.{statement}
@@ -19,11 +18,9 @@ enum-known-e : tie.Need-enum-known-e
 enum-known-e c = search needs
 
 returns : tie.Need-returns
-unfolding countReply
 returns c = count-pairs _ _ _ _ _ (sym (c .before .n .given .1) ∙ c .before .before .before .scan .ensures)
 
 returns-2 : tie.Need-returns-2
-unfolding countReply
 returns-2 c = count-refused _ _ _ (sym (c .before .e .given .1) ∙ c .before .before .before .scan .ensures)
 
 pub count-spec : {M : Type 1} → statement M

@@ -2,8 +2,6 @@
 use mathlib.Core.Path.{refl, sym, _∙_}
 use denote.Ref.{now}
 use Rattle.variables.specs.Calls as Calls
-use Rattle.variables.specs.Calls.{wellNamed}
-use Rattle.variables.specs.Places.{readReply}
 use Rattle.variables.proofs.CallPlaces.{call-refused, reads-as, read-pairs, place-sought}
 use borrow.Author.Needs.{needs}
 use Rattle.variables.proofs.read.Statement.{statement}
@@ -25,12 +23,11 @@ read-pair-requires c κs =
     place-sought _ _ (g .0 .0) (g .0 .1 .0) (g .0 .1 .1 .0) (sym (g .1) ∙ p .before .before .scan-named .ensures)
 
 returns : tie.Need-returns
-unfolding readReply wellNamed
 returns c =
     let g = c .before .e .given in
     let s = c .before .before .before in
     let a = s .before .before .before .before .args in
-    let f = call-refused (Calls.read (now (a .name)) (now (a .buffer))) (now (a .name)) refl (now (a .area)) (g .0 .0) (sym (g .1) ∙ s .scan-named .ensures) in
+    let f = call-refused (now (a .name)) (Calls.readInto (now (a .buffer))) (now (a .area)) (g .0 .0) (sym (g .1) ∙ s .scan-named .ensures) in
     let r = reads-as (sym f) (record { replied = refl; left = refl }) in
     (r .replied, r .left)
 

@@ -4,7 +4,6 @@ use Prim.Native.Nat.{_+_, _≤_, _<_}
 use native.Mathlib.Omega.{arith}
 use lib.ListN.{length}
 use Rattle.values.specs.Value.{part}
-use Rattle.variables.specs.Places.{readReply}
 use Rattle.variables.proofs.CallPlaces.{place-inside, read-missing, read-fits, read-short}
 use borrow.Author.Needs.{needs}
 use Rattle.variables.proofs.read_pair.Statement.{statement}
@@ -42,7 +41,6 @@ enum-told-2 : tie.Need-enum-told-2
 enum-told-2 c = search needs
 
 returns : tie.Need-returns
-unfolding readReply
 returns c =
     let r = read-missing _ (c .before .before .before .before .args .buffer .now) _ (c .enum-told .given .1) in
     (r .replied, r .left)
@@ -51,7 +49,7 @@ same-length : tie.Need-same-length
 same-length c = search needs
 
 returns-2 : tie.Need-returns-2
-unfolding readReply part
+unfolding part
 returns-2 c =
     let d = c .before .before .before .before .before in
     let p = d .before .before .before .before in
@@ -62,7 +60,7 @@ same-length-2 : tie.Need-same-length-2
 same-length-2 c = search needs
 
 returns-3 : tie.Need-returns-3
-unfolding readReply part
+unfolding part
 returns-3 c =
     let d = c .before .before .before .before in
     let p = d .before .before .before .before in
