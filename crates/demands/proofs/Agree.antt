@@ -1,11 +1,9 @@
 -- One call on an area of pairs and one step of the model: both tell the same, and the model stays that of the area.
-use Prim.Native.Nat.{ℕ, _+_, _≤_, _<_}
+use Prim.Native.Nat.{ℕ, _+_, _≤_}
 use mathlib.Core.Path.{_≡_, refl, sym, ap, _∙_}
-use mathlib.Core.Bool.{true, false}
 use mathlib.Core.List.{List, [], _++_}
 use native.Mathlib.Omega.{arith}
 use lib.ListN.{length, drop}
-use lib.Dec.{ltb}
 use borrow.Author.Tests.{lt-ltb, le-ltb}
 use Rattle.lists.specs.Bytes.{AllBytes}
 use Rattle.lists.specs.Pasted.{pasted}
@@ -21,7 +19,7 @@ use Rattle.pairs.specs.Rules.{Entry}
 use Rattle.pairs.proofs.ParseLaws.{Good as GoodPairs, area-read, read-room, bytes-read}
 use Rattle.pairs.proofs.StandsLaws.{stands-none}
 use Rattle.pairs.proofs.EntryLaws.{entriesOf}
-use Rattle.variables.specs.Edits.{areaBytes, setPair, removePair, normalizePairs, lookup, found, missing}
+use Rattle.variables.specs.Edits.{areaBytes, setPair, removePair, normalizePairs, lookup}
 use Rattle.variables.specs.Calls.{Action, setTo, removal, readInto, lentBy, Call, named, set, remove, normalize, read, count, Reply, done, refused, Outcome, edited, callPairs, callArea}
 use Rattle.variables.proofs.EditLaws.{length-area, parse-area, good-set, good-remove, good-normalize, remove-room, bytes-set, bytes-remove, bytes-normalize, bytes-area, normalize-short, normalize-twice, normalize-set, normalize-remove}
 use Rattle.variables.proofs.CallLaws.{check-named, check-normalize, check-count, call-misnamed, call-parsed, set-short, set-done, remove-missing, remove-found, read-missing, read-short, read-done, normalize-done, count-done, split-lookup, split-room}

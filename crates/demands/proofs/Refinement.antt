@@ -18,7 +18,7 @@ use Rattle.variables.specs.Calls.{Call, normalize, Outcome, callArea}
 use Rattle.nvram.specs.Common.{HasCommon, commonOf}
 use Rattle.nvram.specs.Calls.{Result, callImage}
 use Rattle.nvram.proofs.CommonLaws.{common-exactly, common-among, common-kept}
-use Rattle.nvram.proofs.CallLaws.{lifted, call-image}
+use Rattle.nvram.proofs.CallLaws.{call-image}
 use Rattle.demands.specs.Library.{Results, runImage}
 use Rattle.demands.specs.Model.{Model, Stepped, step, Run, run, canonicalArea}
 use Rattle.demands.specs.Demands.{CallBytes, CallsBytes, Normalizes, Demand3}

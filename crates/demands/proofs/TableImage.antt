@@ -16,7 +16,7 @@ use Rattle.partitions.specs.declared.Checked.{Checked}
 use Rattle.partitions.specs.declared.Checked.the-variants.{Accepted as Accepts, Refused as Rejects}
 use Rattle.partitions.specs.declared.Found.{Found}
 use Rattle.partitions.specs.declared.Found.the-variants.{At, Refused}
-use Rattle.partitions.specs.Find.{checkOf, indexOf, findOf, areaOf}
+use Rattle.partitions.specs.Find.{checkOf, indexOf, findOf}
 use Rattle.partitions.specs.Cover.{Rejected, PartitionCount, FirstNamed, NotNamed, Indexed, NotIndexed, areaAt}
 use Rattle.partitions.proofs.CoverLaws.{check-accepts, check-refuses}
 use Rattle.partitions.proofs.FoundLaws.{find-first, find-refuses, index-at, index-refuses}

@@ -1,6 +1,6 @@
 -- What is seen of a call once `common` is found: the outcome in its area, put into the image.
 use Prim.Native.Nat.{ℕ, _+_}
-use mathlib.Core.Path.{_≡_, refl, sym, ap, _∙_}
+use mathlib.Core.Path.{_≡_, sym, ap, _∙_}
 use mathlib.Core.List.{List}
 use lib.ListN.{length}
 use Rattle.lists.specs.Bytes.{AllBytes}

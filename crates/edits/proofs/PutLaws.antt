@@ -6,11 +6,12 @@ use native.Mathlib.Omega.{arith}
 use borrow.Rule.Slice.PartMut.{putMid, midOf}
 use lib.ListN.{length, set, take, drop, replicate, length-append, length-drop, length-replicate}
 use lib.Seq.{length-take-le}
-use Rattle.lists.specs.Pasted.{pasted, movedBytes}
+use Rattle.lists.specs.Pasted.{pasted}
+use Rattle.lists.specs.Helpers.{movedBytes}
 use Rattle.lists.proofs.PastedLaws.{length-pasted, pasted-more, pasted-last, set-after}
 use Rattle.lists.proofs.MoveLaws.{moved-inside, part-filled}
 use Rattle.pairs.specs.Area.{pairOf, pairBytes}
-use Rattle.edits.specs.Replaced.{tailShifted}
+use Rattle.edits.specs.Helpers.{tailShifted}
 
 -- a piece, and one byte right after it
 module _ (d : List ℕ) (at : ℕ) (w : List ℕ) (room : at + length w + 1 ≤ length d) (d₁ : List ℕ) (e₁ : d₁ ≡ pasted d at w) where

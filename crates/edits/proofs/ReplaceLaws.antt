@@ -18,9 +18,9 @@ use Rattle.pairs.specs.Area.{Pair, pairOf, pairBytes, pairsBytes, Parse, parse}
 use Rattle.variables.specs.Edits.{areaBytes, canonicalPair, setPair, removePair, Lookup, lookup, found, missing}
 use Rattle.variables.specs.Calls as Calls
 use Rattle.variables.specs.Calls.{Outcome, refuse, edited, done, refused, callBy, callPairs}
-use Rattle.variables.specs.Places.{namedScan}
-use Rattle.pairs.specs.Places.{findAt}
-use Rattle.edits.specs.Replaced.{Used, tailShifted, replaceReply, replaceArea}
+use Rattle.variables.specs.Helpers.{namedScan}
+use Rattle.pairs.specs.Helpers.{findAt}
+use Rattle.edits.specs.Helpers.{Used, tailShifted, replaceReply, replaceArea}
 use Rattle.pairs.proofs.ParseLaws.{area-read, read-room, pairs-append}
 use Rattle.variables.proofs.EditLaws.{set-nowhere, lookup-missing-exactly}
 use Rattle.variables.proofs.CallPlaces.{named-pairs, set-makes}

@@ -8,7 +8,7 @@ use lib.Seq.{take-at, drop-at, take-append-le, take-take, length-take-le}
 use Rattle.lists.specs.Pasted.{pasted}
 use Rattle.pairs.specs.Area.{Pair, pairsBytes}
 use Rattle.variables.specs.Edits.{areaBytes}
-use Rattle.edits.specs.Replaced.{tailShifted}
+use Rattle.edits.specs.Helpers.{tailShifted}
 use Rattle.pairs.proofs.ParseLaws.{pairs-append}
 use Rattle.variables.proofs.EditLaws.{area-zeros}
 

@@ -10,11 +10,11 @@ ghost use lib.ListN.{length};
 ghost use Rattle.lists.specs.Pasted.{pasted};
 ghost use Rattle.values.specs.Value.{encode};
 ghost use Rattle.pairs.specs.Area.{pairBytes, parse};
-ghost use Rattle.pairs.specs.Places.{findAt};
+ghost use Rattle.pairs.specs.Helpers.{findAt};
 ghost use Rattle.variables.specs.Edits.{canonicalPair};
-ghost use Rattle.variables.specs.Places.{editReply};
+ghost use Rattle.variables.specs.Answers.{editReply};
 ghost use Rattle.variables.specs.Calls as Calls;
-ghost use Rattle.edits.specs.Replaced.{Used, tailShifted, replaceReply, replaceArea};
+ghost use Rattle.edits.specs.Helpers.{Used, tailShifted, replaceReply, replaceArea};
 
 // Moves the bytes from `rest` up to `used` to `to`, and zeroes the area after them.
 fn shift_tail(area: &mut [u8], rest: usize, to: usize, used: usize)

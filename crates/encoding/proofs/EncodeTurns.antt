@@ -11,12 +11,13 @@ use lib.Seq.{drop-drop}
 use borrow.Author.Tests.{eqb-true, eqb-false, eq-eqb, ne-eqb}
 use Rattle.lists.specs.Pasted.{pasted}
 use Rattle.lists.proofs.Tests.{split}
-use Rattle.lists.specs.Find.{untilEither}
+use Rattle.lists.specs.Helpers.{untilEither}
 use Rattle.lists.proofs.FindLaws.{either-further, either-piece, either-plain, plain-length}
 use Rattle.lists.proofs.PastedLaws.{set-pasted, set-after}
 use Rattle.lists.proofs.Grown.{Grown, grown-none, grown-as, grown-same, grown-piece, grown-byte, grown-all, grown-end}
-use Rattle.values.specs.Value.{mark, fullEscapes, restEscape, runBytes, escaped, encode, part}
-use Rattle.encoding.specs.Leading.{leading}
+use Rattle.values.specs.Value.{mark, fullEscapes, restEscape, runBytes, escaped, encode}
+use Rattle.values.specs.Helpers.{part}
+use Rattle.encoding.specs.Helpers.{leading}
 use Rattle.values.specs.Rules.{Begins}
 use Rattle.lists.proofs.ListLaws.{drop-next}
 use Rattle.lists.proofs.Grown.{grown-left}

@@ -8,13 +8,15 @@ use lib.ListN.{length, take, drop, length-drop, take-append-drop}
 use lib.Dec.{leb}
 use lib.Seq.{length-take-le, drop-drop}
 use borrow.Author.Tests.{le-leb, leb-true}
-use Rattle.lists.specs.Pasted.{pasted, movedBytes}
+use Rattle.lists.specs.Pasted.{pasted}
+use Rattle.lists.specs.Helpers.{movedBytes}
 use Rattle.lists.proofs.MoveLaws.{moved-inside}
 use Rattle.lists.specs.Bytes.{AllBytes}
 use Rattle.lists.proofs.Tests.{split, clash, and-true}
 use Rattle.lists.proofs.ByteLaws.{every-take, every-drop}
 use Rattle.values.specs.declared.Written.the-variants.{Length, NoRoom}
-use Rattle.values.specs.Value.{decode, spelled, mark, encodeFrom, part, recodable, recoded, recodedOf, recodedIn}
+use Rattle.values.specs.Value.{decode, spelled, mark, encodeFrom}
+use Rattle.values.specs.Helpers.{part, recodable, recoded, recodedOf, recodedIn}
 use Rattle.values.specs.Rules.{Spells}
 use Rattle.values.proofs.DecodeLaws.{spells-exactly}
 use Rattle.values.proofs.EncodeLaws.{encode-none, encode-plain, encode-more, encode-other, encode-cases, encode-shortest}

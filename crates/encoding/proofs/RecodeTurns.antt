@@ -10,13 +10,14 @@ use lib.Seq.{take-take, length-take-le}
 use lib.Dec.{leb}
 use borrow.Author.Tests.{ne-eqb, leb-true, leb-false}
 use Rattle.lists.specs.Bytes.{Every}
-use Rattle.lists.specs.Find.{untilEither}
+use Rattle.lists.specs.Helpers.{untilEither}
 use Rattle.lists.specs.Pasted.{pasted}
 use Rattle.lists.proofs.PastedLaws.{drop-pasted-after}
 use Rattle.lists.proofs.FindLaws.{until-next, until-short, until-before}
 use Rattle.lists.proofs.Tests.{split}
 use Rattle.lists.proofs.Grown.{Grown, grown-none, grown-same, grown-after, grown-as, grown-piece, grown-all, grown-end}
-use Rattle.values.specs.Value.{runByte, run, decode, spelled, mark, runBytes, escaped, encodeFrom, encode, part, recoded}
+use Rattle.values.specs.Value.{runByte, run, decode, spelled, mark, runBytes, escaped, encodeFrom, encode}
+use Rattle.values.specs.Helpers.{part, recoded}
 use Rattle.values.proofs.DecodeLaws.{decode-none, decode-piece, decode-escape, spelled-piece, plain-spelled, escape-spelled, cut-spelled, PlainSpelled, EscapeSpelled}
 use Rattle.values.proofs.EncodeLaws.{length-run-bytes, encode-none, run-same, run-other}
 use Rattle.values.proofs.CanonicalLaws.{encode-after}

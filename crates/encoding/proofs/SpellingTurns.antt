@@ -8,7 +8,7 @@ use native.Mathlib.Omega.{arith}
 use lib.ListN.{length, getD, take, drop, drop-of-length-le}
 use lib.Dec.{eqb}
 use borrow.Author.Tests.{eqb-true, eqb-false}
-use Rattle.lists.specs.Find.{untilEither}
+use Rattle.lists.specs.Helpers.{untilEither}
 use Rattle.lists.proofs.Tests.{split}
 use Rattle.lists.proofs.FindLaws.{either-piece, either-plain}
 use Rattle.lists.proofs.ListLaws.{drop-next}

@@ -5,11 +5,11 @@ ghost use mathlib.Core.List.{[], _∷_};
 ghost use Prim.Native.Nat.{_+_, _≤_};
 ghost use lib.ListN.{length, take, drop};
 ghost use Rattle.lists.specs.Pasted.{pasted, writtenIn};
-ghost use Rattle.lists.specs.Find.{untilEither};
+ghost use Rattle.lists.specs.Helpers.{untilEither};
 ghost use mathlib.Core.Bool.{true};
 ghost use Rattle.values.specs.Value.{spelled, escaped, mark, runBytes, encode, writtenOf};
-ghost use Rattle.values.specs.Value.{recodable, recoded, recodedOf, recodedIn};
-ghost use Rattle.encoding.specs.Leading.{leading};
+ghost use Rattle.values.specs.Helpers.{recodable, recoded, recodedOf, recodedIn};
+ghost use Rattle.encoding.specs.Helpers.{leading};
 
 // The end of the bytes from `from` on that are looked at one by one.
 fn near_end(from: usize, len: usize) -> usize

@@ -5,7 +5,7 @@ use header::Blocks;
 use header::Header;
 use libc::STDOUT_FILENO;
 use variables::Edited;
-use variables::ReadAnswer;
+use variables::Fetched;
 
 // The greatest image: 65,536 blocks.
 const BLOCKS: u32 = 65536;
@@ -111,13 +111,13 @@ fn set_first(image: &mut [u8], value: &[u8], n: usize) {
 // Reads `a`, and writes how many of its bytes are as they were set.
 fn read_back(image: &[u8], value: &mut [u8]) {
     match nvram::read(image, b"a", value) {
-        ReadAnswer::Length(n) => {
+        Fetched::Length(n) => {
             io::print_decimal(STDOUT_FILENO, n as u64);
             io::write_all(STDOUT_FILENO, b" bytes read back, ");
             io::print_decimal(STDOUT_FILENO, leading(value, 85) as u64);
             io::write_all(STDOUT_FILENO, b" of them as set\n");
         }
-        ReadAnswer::Refused(e) => write_refused(e.code(), e.offset()),
+        Fetched::Refused(e) => write_refused(e.code(), e.offset()),
     }
 }
 

@@ -8,7 +8,7 @@ use native.Mathlib.Decide.{decLe}
 use borrow.Author.Tests.{le-leb, lt-leb}
 use Rattle.lists.specs.Bytes.{Every, AllBytes}
 use Rattle.header.specs.declared.Header.{Header}
-use Rattle.header.specs.Header.{covered}
+use Rattle.header.specs.Header.{coveredBytes}
 use Rattle.header.specs.Checksum.{addCarry, sumFrom, sumcheck, sum, closedForm}
 
 -- one byte more, by whether a carry leaves the byte
@@ -72,8 +72,8 @@ closed-positive (suc m) z = omega arith
 
 -- the closed form of the plain sum of a header's fields
 pub sum-covered : (h : Header) → h .signature < 256 → AllBytes (h .name) → (n s r : ℕ) → n ≡ sum (h .name) → s ≡ h .signature
-    → r ≡ closedForm (n + s + h .length .0 / 256 % 256 + h .length .0 % 256) → r ≡ sumcheck (covered h)
+    → r ≡ closedForm (n + s + h .length .0 / 256 % 256 + h .length .0 % 256) → r ≡ sumcheck (coveredBytes h)
 unfolding sum
 sum-covered h l a n s r en es er =
-    let e : n + s + h .length .0 / 256 % 256 + h .length .0 % 256 ≡ sum (covered h) = omega arith in
-    er ∙ ap closedForm e ∙ sym (closed-form (covered h) (l, (omega arith, (omega arith, a))))
+    let e : n + s + h .length .0 / 256 % 256 + h .length .0 % 256 ≡ sum (coveredBytes h) = omega arith in
+    er ∙ ap closedForm e ∙ sym (closed-form (coveredBytes h) (l, (omega arith, (omega arith, a))))

@@ -15,7 +15,7 @@ use Rattle.errors.specs.declared.Error.the-variants.{BadHeader}
 use Rattle.header.specs.declared.Validity.{Validity}
 use Rattle.header.specs.declared.Validity.the-variants.{Valid, Invalid}
 use Rattle.header.specs.Checksum.{sum, sumcheck, closedForm}
-use Rattle.header.specs.Header.{byteAt, nameAt, headerAt, bytesOf, covered, firstBroken, validityOf, validityAt}
+use Rattle.header.specs.Header.{byteAt, nameAt, headerAt, bytesOf, coveredBytes, firstBroken, validityOf, validityAt}
 use Rattle.header.specs.Rules.{blocksAt, checksumAt, Sound, Breaks, two, three, four, five}
 use Rattle.header.proofs.SumLaws.{name-sum}
 use Rattle.header.proofs.ChecksumLaws.{closed-form, sum-covered}
@@ -44,9 +44,9 @@ module _ (image : List ℕ) (at : ℕ) where
     unfolding validityAt validityOf
     cut-read l e =
         let h = headerAt image at in
-        e ∙ cut-off b 0 0 (h .checksum) (sumcheck (covered h)) at room l ∙ (λ i. firstBroken (eb i) (h .checksum) (sumcheck (covered h)) at (er i))
+        e ∙ cut-off b 0 0 (h .checksum) (sumcheck (coveredBytes h)) at room l ∙ (λ i. firstBroken (eb i) (h .checksum) (sumcheck (coveredBytes h)) at (er i))
 
-    pub whole-read : (s : ℕ) → s ≡ sumcheck (covered (headerAt image at)) → r ≡ firstBroken b (byteAt image at 1) s at room → r ≡ validityAt image at
+    pub whole-read : (s : ℕ) → s ≡ sumcheck (coveredBytes (headerAt image at)) → r ≡ firstBroken b (byteAt image at 1) s at room → r ≡ validityAt image at
     unfolding validityAt validityOf
     whole-read s es e = e ∙ (λ i. firstBroken (eb i) (sym checksum-read i) (es i) at (er i))
 
@@ -54,7 +54,7 @@ module _ (image : List ℕ) (at : ℕ) where
     byte : (k : ℕ) → byteAt image at k < 256
     byte k = every-get (λ b. b < 256) (omega arith) image (at + k) bytes
 
-    covered-read : covered (headerAt image at) ≡ byteAt image at 0 ∷ byteAt image at 2 ∷ byteAt image at 3 ∷ nameAt image at
+    covered-read : coveredBytes (headerAt image at) ≡ byteAt image at 0 ∷ byteAt image at 2 ∷ byteAt image at 3 ∷ nameAt image at
     unfolding headerAt
     covered-read =
         let b2 = byte 2 in
@@ -68,14 +68,14 @@ module _ (image : List ℕ) (at : ℕ) where
     name-bytes =
         (byte 4, (byte 5, (byte 6, (byte 7, (byte 8, (byte 9, (byte 10, (byte 11, (byte 12, (byte 13, (byte 14, (byte 15, tt))))))))))))
 
-    pub sum-read : sumcheck (covered (headerAt image at)) ≡ checksumAt image at
+    pub sum-read : sumcheck (coveredBytes (headerAt image at)) ≡ checksumAt image at
     unfolding checksumAt
     sum-read = ap sumcheck covered-read ∙ closed-form _ (byte 0, (byte 2, (byte 3, name-bytes)))
 
     -- the same of what the code has read of a whole header
     pub checksum-whole : at + 16 ≤ length image → (n s r : ℕ) (l : Blocks) → n ≡ sum (take (at + 16 - (at + 4)) (drop (at + 4) image))
         → s ≡ headerAt image at .signature → l ≡ headerAt image at .length → r ≡ closedForm (n + s + l .0 / 256 % 256 + l .0 % 256)
-        → r ≡ sumcheck (covered (headerAt image at))
+        → r ≡ sumcheck (coveredBytes (headerAt image at))
     unfolding headerAt
     checksum-whole h n s r l en es el er =
         sum-covered (headerAt image at) (byte 0) name-bytes n s r (en ∙ name-sum image at h) es
@@ -93,25 +93,25 @@ module _ (image : List ℕ) (at : ℕ) where
     unfolding validityAt validityOf
     breaks-invalid (two z) =
         let h = headerAt image at in
-        sym (zero-length (h .length) (h .checksum) (sumcheck (covered h)) at (length image - at) (blocks-read ∙ z))
+        sym (zero-length (h .length) (h .checksum) (sumcheck (coveredBytes h)) at (length image - at) (blocks-read ∙ z))
     breaks-invalid (three z p) =
         let h = headerAt image at in
         let q : length image - at < headerAt image at .length .0 * 16 = omega (arith, blocks-read) in
-        sym (past-end (h .length) (h .checksum) (sumcheck (covered h)) at (length image - at) (nonzero z) (bytesOf (h .length)) refl q)
+        sym (past-end (h .length) (h .checksum) (sumcheck (coveredBytes h)) at (length image - at) (nonzero z) (bytesOf (h .length)) refl q)
     breaks-invalid (four z f a) =
         let h = headerAt image at in
-        sym (checksum-differs (h .length) (h .checksum) (sumcheck (covered h)) at (length image - at) (nonzero z) (bytesOf (h .length)) refl (fits z f)
+        sym (checksum-differs (h .length) (h .checksum) (sumcheck (coveredBytes h)) at (length image - at) (nonzero z) (bytesOf (h .length)) refl (fits z f)
         (λ e. a (sym checksum-read ∙ e ∙ sum-read)))
     breaks-invalid (five z f a m) =
         let h = headerAt image at in
-        sym (checksum-zero (h .length) (h .checksum) (sumcheck (covered h)) at (length image - at) (nonzero z) (bytesOf (h .length)) refl (fits z f)
+        sym (checksum-zero (h .length) (h .checksum) (sumcheck (coveredBytes h)) at (length image - at) (nonzero z) (bytesOf (h .length)) refl (fits z f)
         (checksum-read ∙ a ∙ sym sum-read) (sum-read ∙ sym a ∙ m))
 
     pub sound-valid : Sound image at → validityAt image at ≡ Valid
     unfolding validityAt validityOf
     sound-valid s =
         let h = headerAt image at in
-        sym (no-rule-broken (h .length) (h .checksum) (sumcheck (covered h)) at (length image - at) (nonzero (s .nonzero)) (bytesOf (h .length)) refl
+        sym (no-rule-broken (h .length) (h .checksum) (sumcheck (coveredBytes h)) at (length image - at) (nonzero (s .nonzero)) (bytesOf (h .length)) refl
         (fits (s .nonzero) (s .inside)) (checksum-read ∙ s .agrees ∙ sym sum-read) (λ e. s .marked (s .agrees ∙ sym sum-read ∙ e)))
 
     -- what the rules say of the header at an offset

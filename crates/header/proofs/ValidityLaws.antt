@@ -21,7 +21,7 @@ use Rattle.errors.specs.declared.HeaderFault.{HeaderFault}
 use Rattle.errors.specs.declared.HeaderFault.the-variants.{ZeroLength, PastEnd, Checksum, ZeroChecksum}
 use Rattle.errors.specs.declared.Error.the-variants.{BadHeader}
 use Rattle.header.specs.Checksum.{sumcheck}
-use Rattle.header.specs.Header.{bytesOf, headerAt, covered, newHeader, firstBroken, validityOf, validityAt}
+use Rattle.header.specs.Header.{bytesOf, headerAt, coveredBytes, newHeader, firstBroken, validityOf, validityAt}
 
 module _ (blocks : Blocks) (stored computed at room : ℕ) where
   pub zero-length : blocks .0 ≡ 0 → Invalid (BadHeader ZeroLength at) ≡ firstBroken blocks stored computed at room
@@ -47,7 +47,7 @@ module _ (blocks : Blocks) (stored computed at room : ℕ) where
       no-rule-broken a n = rw (ne-eqb _ _ z, le-ltb _ _ fits, eq-eqb _ _ a, ne-eqb _ _ n)
 
 -- the rules of a header, by its checksum that was computed
-pub check-read : (h : Header) (at room s : ℕ) (r : Validity) → s ≡ sumcheck (covered h) → r ≡ firstBroken (h .length) (h .checksum) s at room
+pub check-read : (h : Header) (at room s : ℕ) (r : Validity) → s ≡ sumcheck (coveredBytes h) → r ≡ firstBroken (h .length) (h .checksum) s at room
     → r ≡ validityOf h at room
 unfolding validityOf
 check-read h at room s r es e = e ∙ (λ i. firstBroken (h .length) (h .checksum) (es i) at room)
@@ -64,7 +64,7 @@ cut-off blocks s c t d at room h = go (ℕ-discrete (blocks .0) 0)
 
 -- a header made of its fields, where its checksum and the test of its length are right
 module _ (signature : ℕ) (blocks : Blocks) (name : List ℕ) (s : ℕ)
-    (es : s ≡ sumcheck (covered (record { signature = signature; checksum = 0; length = blocks; name = name }))) where
+    (es : s ≡ sumcheck (coveredBytes (record { signature = signature; checksum = 0; length = blocks; name = name }))) where
   made : (b : Bool) → b ≡ (leb 1 (blocks .0) && leb (blocks .0) 65535)
       → _≡_ {A = NewHeader} (record { header = record { signature = signature; checksum = s; length = blocks; name = name }; allowed = b })
       (newHeader signature blocks name)
@@ -105,8 +105,8 @@ pub invalid-here : (image : List ℕ) (at : ℕ) (e : Error) → validityAt imag
 unfolding validityAt validityOf
 invalid-here image at e q =
     let h : Header = headerAt image at in
-    fault-by (eqb (h .length .0) 0) (ltb (len image - at) (bytesOf (h .length) .0)) (not (eqb (h .checksum) (sumcheck (covered h))))
-    (eqb (sumcheck (covered h)) 0) at e q
+    fault-by (eqb (h .length .0) 0) (ltb (len image - at) (bytesOf (h .length) .0)) (not (eqb (h .checksum) (sumcheck (coveredBytes h))))
+    (eqb (sumcheck (coveredBytes h)) 0) at e q
 
 -- the first two tests of a header that breaks no rule
 valid-tests : (a b : Bool) (w x : Error) (v : Validity) → cond a (Invalid w) (cond b (Invalid x) v) ≡ Valid

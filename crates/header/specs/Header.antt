@@ -1,6 +1,6 @@
 -- The header of a partition: 16 bytes of signature, checksum, length and name.
 use Prim.Native.Nat.{ℕ, _+_, _-_, _*_, _/_, _%_}
-use mathlib.Core.Bool.{Bool, true, false, not, _&&_, cond}
+use mathlib.Core.Bool.{not, _&&_, cond}
 use mathlib.Core.List.{List, [], _∷_}
 use lib.ListN.{length, getD}
 use lib.Dec.{leb, ltb, eqb}
@@ -42,15 +42,15 @@ headerAt image at =
     }
 
 -- the 15 bytes that the checksum covers: signature, length and name
-abbrev pub covered : Header → List ℕ
-covered h = h .signature ∷ h .length .0 / 256 % 256 ∷ h .length .0 % 256 ∷ h .name
+abbrev pub coveredBytes : Header → List ℕ
+coveredBytes h = h .signature ∷ h .length .0 / 256 % 256 ∷ h .length .0 % 256 ∷ h .name
 
 -- the header of these fields, with the checksum that is right for them
 abbrev pub sealed : ℕ → Blocks → List ℕ → Header
 sealed signature blocks name =
     record {
       signature = signature;
-      checksum = sumcheck (covered (record { signature = signature; checksum = 0; length = blocks; name = name }));
+      checksum = sumcheck (coveredBytes (record { signature = signature; checksum = 0; length = blocks; name = name }));
       length = blocks;
       name = name;
     }
@@ -71,7 +71,7 @@ firstBroken blocks stored computed at room =
 
 -- the first rule that a header breaks, where it stands there
 unfoldable pub validityOf : Header → ℕ → ℕ → Validity
-validityOf h at room = firstBroken (h .length) (h .checksum) (sumcheck (covered h)) at room
+validityOf h at room = firstBroken (h .length) (h .checksum) (sumcheck (coveredBytes h)) at room
 
 -- the first rule that the header at an offset of an image breaks
 unfoldable pub validityAt : List ℕ → ℕ → Validity

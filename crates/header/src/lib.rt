@@ -6,7 +6,7 @@ ghost use Prim.Native.Nat.{_+_, _/_, _%_, _≤_};
 ghost use lib.ListN.{length as len};
 ghost use Rattle.lists.specs.Bytes.{AllBytes};
 ghost use Rattle.header.specs.Checksum.{sum, sumcheck, closedForm};
-ghost use Rattle.header.specs.Header.{bytesOf, byteAt, nameAt, headerAt, covered, newHeader, firstBroken, validityOf, validityAt, validityAnswer};
+ghost use Rattle.header.specs.Header.{bytesOf, byteAt, nameAt, headerAt, coveredBytes, newHeader, firstBroken, validityOf, validityAt, validityAnswer};
 
 // A length in blocks, as a header holds it.
 pub struct Blocks(pub u32);
@@ -156,7 +156,7 @@ impl Header {
 
     // The checksum of the 15 bytes of signature, length and name.
     pub fn computed_checksum(self) -> u8
-        ensures { λ r. ⌜ r ≡ sumcheck (covered self) ⌝ }
+        ensures { λ r. ⌜ r ≡ sumcheck (coveredBytes self) ⌝ }
     {
         let name = self.name;
         checksum_of(self.signature, self.length, sum_name(&name))
@@ -318,7 +318,7 @@ fn checksum_of(signature: u8, length: Blocks, name: u32) -> u8
 // The checksum that is right for a whole header at an offset.
 fn checksum_at(image: &[u8], at: usize) -> u8
     requires { ⌜ at + 16 ≤ len (now image) ⌝ }
-    ensures { λ r. ⌜ r ≡ sumcheck (covered (headerAt (now (image .entry)) at)) ⌝ }
+    ensures { λ r. ⌜ r ≡ sumcheck (coveredBytes (headerAt (now (image .entry)) at)) ⌝ }
 {
     let start = at + 4;
     let end = at + Header::SIZE;

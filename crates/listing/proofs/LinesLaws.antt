@@ -23,7 +23,7 @@ use Rattle.partitions.proofs.CheckLaws.{check-refused}
 use Rattle.listing.specs.declared.Measured.{Measured}
 use Rattle.listing.specs.declared.Measured.the-variants.{Lines, Broken}
 use Rattle.listing.specs.Text.{line, lines, blocksSum}
-use Rattle.listing.specs.Parts.{Put, measuredBy, measuredOf, linesBy, linesOf, Covered}
+use Rattle.listing.specs.Helpers.{Put, measuredBy, measuredOf, linesBy, linesOf, Covered}
 use Rattle.listing.proofs.WordLaws.{line-within}
 
 -- a step that goes on: the partition stands here, and ends inside the image

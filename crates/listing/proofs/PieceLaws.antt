@@ -15,7 +15,7 @@ use Rattle.listing.specs.declared.Listed.{Listed}
 use Rattle.listing.specs.declared.Listed.the-variants.{Written, Refused}
 use Rattle.listing.specs.Text.{decimal, hexDigit, hexByte}
 use Rattle.listing.specs.Listed.{listedOf}
-use Rattle.listing.specs.Parts.{Put}
+use Rattle.listing.specs.Helpers.{Put}
 use Rattle.listing.proofs.WordLaws.{decimal-digit, decimal-more, length-more}
 
 module _ (t d : List ℕ) where

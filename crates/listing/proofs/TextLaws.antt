@@ -1,7 +1,6 @@
 -- Laws of the text: a number in decimal reads back, a text is never longer than 131,072 bytes, and what it is in each case.
 use Prim.Native.Nat.{ℕ, zero, suc, _+_, _-_, _*_, _/_, _%_, _≤_, _<_}
 use mathlib.Core.Path.{_≡_, refl, sym, ap, _∙_}
-use mathlib.Core.Bool.{true, false}
 use mathlib.Core.List.{List, [], _∷_, _++_}
 use native.Mathlib.Omega.{arith}
 use lib.Dec.{ltb}
@@ -22,7 +21,7 @@ use Rattle.partitions.specs.Walk.{stepAt, partitionOf, pastOf, Walk, covered, b
 use Rattle.partitions.proofs.WalkLaws.{View, ends, goes, breaks, view, rest, walk-rest, walk-refused}
 use Rattle.listing.specs.declared.Measured.the-variants.{Lines, Broken}
 use Rattle.listing.specs.Text.{decimal, line, lines, blocksSum, heading, blocksWord, tooLong, textBy, listingText}
-use Rattle.listing.specs.Parts.{measuredBy, measuredOf, linesBy, linesOf, Covered}
+use Rattle.listing.specs.Helpers.{measuredBy, measuredOf, linesBy, linesOf, Covered}
 use Rattle.listing.proofs.WordLaws.{by-digits, decimal-digit, decimal-more, decimal-some, decimal-within}
 use Rattle.listing.proofs.LinesLaws.{Goes, valid-goes, goes-within}
 

@@ -1,4 +1,4 @@
 pub mod Text
 pub mod Listed
-pub mod Parts
 pub mod Examples
+pub mod Helpers

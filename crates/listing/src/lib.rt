@@ -7,7 +7,7 @@ ghost use Rattle.lists.specs.Pasted.{writtenIn};
 ghost use Rattle.partitions.specs.Walk.{broken, walk};
 ghost use Rattle.listing.specs.Text.{decimal, hexDigit, hexByte, visible, shownName, line, textBy, listingText};
 ghost use Rattle.listing.specs.Listed.{listedOf, listAnswer};
-ghost use Rattle.listing.specs.Parts.{Put, measuredOf, linesOf, Covered};
+ghost use Rattle.listing.specs.Helpers.{Put, measuredOf, linesOf, Covered};
 use errors::Error;
 use header::Header;
 use partitions::Checked;

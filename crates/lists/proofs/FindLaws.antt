@@ -10,7 +10,7 @@ use lib.ListN.{length, getD, take, drop, length-drop, take-append-drop, drop-of-
 use lib.Seq.{getD-drop, drop-drop, take-take, length-take-le}
 use borrow.Author.Tests.{eqb-true, eqb-false, eq-eqb, ne-eqb, ltb-true, ltb-false, lt-ltb, le-ltb}
 use Rattle.lists.specs.Bytes.{Every}
-use Rattle.lists.specs.Find.{either, untilEither}
+use Rattle.lists.specs.Helpers.{either, untilEither}
 use Rattle.lists.proofs.Tests.{split, clash}
 use Rattle.lists.proofs.ListLaws.{drop-next}
 use Rattle.lists.proofs.ByteLaws.{every-take}

@@ -9,7 +9,8 @@ use borrow.Author.Tests.{le-leb, lt-leb}
 use lib.ListN.{length, getD, set, take, drop, replicate, length-take, length-drop, length-replicate, replicate-append-replicate, take-append-drop, drop-of-length-le}
 use lib.Seq.{length-take-le, take-all, take-take, take-add, drop-cons, drop-drop, drop-at, getD-drop, getD-take}
 use borrow.Rule.Slice.PartMut.{putMid, midOf, mid-len}
-use Rattle.lists.specs.Pasted.{pasted, movedBytes}
+use Rattle.lists.specs.Pasted.{pasted}
+use Rattle.lists.specs.Helpers.{movedBytes}
 use Rattle.lists.proofs.PastedLaws.{pasted-none, pasted-first, pasted-more, pasted-under, pasted-last, length-pasted, take-pasted-before, drop-pasted-after, set-after, set-before, getD-after, getD-before, copy-step, part-pasted, part-copied}
 
 pub fill-none : (d : List ℕ) (b : ℕ) → d ≡ pasted d 0 (replicate 0 b)

@@ -1,3 +1,3 @@
 pub mod Bytes
-pub mod Find
 pub mod Pasted
+pub mod Helpers

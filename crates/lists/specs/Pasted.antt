@@ -1,6 +1,6 @@
 -- A list with other bytes written over it.
-use Prim.Native.Nat.{ℕ, _+_, _-_}
-use mathlib.Core.Bool.{Bool, true, false, _&&_, cond}
+use Prim.Native.Nat.{ℕ, _+_}
+use mathlib.Core.Bool.{cond}
 use mathlib.Core.List.{List, _++_}
 use lib.ListN.{length, take, drop}
 use lib.Dec.{leb}
@@ -12,8 +12,3 @@ pasted d at w = take at d ++ w ++ drop (at + length w) d
 -- a buffer with bytes at its start and those after them kept, if there is room for them; else as it was
 unfoldable pub writtenIn : List ℕ → List ℕ → List ℕ
 writtenIn l buffer = cond (leb (length l) (length buffer)) (pasted buffer 0 l) buffer
-
--- d with its n bytes at `from` written over it at `to`, if both lie inside it; else d
-unfoldable pub movedBytes : List ℕ → ℕ → ℕ → ℕ → List ℕ
-movedBytes d from to n =
-    cond (leb n (length d) && (leb from (length d - n) && leb to (length d - n))) (pasted d to (take n (drop from d))) d

@@ -3,8 +3,9 @@ ghost use mathlib.Core.Path.{_≡_};
 ghost use Prim.Native.Nat.{_+_, _≤_};
 ghost use lib.ListN.{length, take, drop, replicate};
 ghost use lib.Dec.{ltb};
-ghost use Rattle.lists.specs.Pasted.{pasted, movedBytes};
-ghost use Rattle.lists.specs.Find.{untilEither};
+ghost use Rattle.lists.specs.Pasted.{pasted};
+ghost use Rattle.lists.specs.Helpers.{movedBytes};
+ghost use Rattle.lists.specs.Helpers.{untilEither};
 
 // Copies bytes to the start of `to`, as many as both slices have.
 pub fn copy(from: &[u8], to: &mut [u8])

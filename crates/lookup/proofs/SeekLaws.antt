@@ -11,7 +11,8 @@ use Rattle.partitions.specs.declared.Partition.{Partition}
 use Rattle.partitions.specs.declared.Found.{Found}
 use Rattle.partitions.specs.declared.Found.the-variants.{At, Refused}
 use Rattle.partitions.specs.Walk.{Walk, covered, broken, allowedLength}
-use Rattle.partitions.specs.Find.{padded, matches, keepFirst, firstMatch, findBy, findOf}
+use Rattle.partitions.specs.Find.{padded, matches, firstMatch, findBy, findOf}
+use Rattle.partitions.specs.Helpers.{keepFirst}
 use Rattle.partitions.proofs.WalkLaws.{rest, walk-rest, walk-refused, onWalk}
 use Rattle.lookup.proofs.NameLaws.{matches-signed, matches-other}
 

@@ -11,7 +11,8 @@ use borrow.Author.Tests.{eq-eqb, ne-eqb}
 use Rattle.lists.proofs.Tests.{split}
 use Rattle.lists.proofs.ListLaws.{drop-next}
 use Rattle.names.specs.declared.NameCheck.the-variants.{Good, Wrong}
-use Rattle.names.specs.Name.{nameByte, allowedAhead, nameCheck}
+use Rattle.names.specs.Name.{nameByte, nameCheck}
+use Rattle.names.specs.Helpers.{allowedAhead}
 use Rattle.names.proofs.Marks.{marks, marked}
 use Rattle.names.proofs.NameLaws.{Checked, checked-none, checked-next, checked-long, checked-refused, checked-empty, checked-all}
 

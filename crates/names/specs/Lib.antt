@@ -1,2 +1,3 @@
 pub mod Name
 pub mod Rules
+pub mod Helpers

@@ -1,6 +1,6 @@
 -- The rule of a variable's name, and where a name breaks it first.
-use Prim.Native.Nat.{ℕ, suc, _+_}
-use mathlib.Core.Bool.{Bool, true, false, _&&_, not, cond}
+use Prim.Native.Nat.{ℕ, _+_}
+use mathlib.Core.Bool.{Bool, _&&_, not, cond}
 use mathlib.Core.List.{List, [], _∷_}
 use lib.Dec.{leb, ltb, eqb}
 use Rattle.names.specs.declared.NameCheck.{NameCheck}
@@ -15,11 +15,6 @@ unfoldable pub nameByte : ℕ → Bool
 nameByte b =
     within 0x21 0x7E b && not (within 0x41 0x5A b) && not (eqb b 0x2F) && not (eqb b 0x5C) && not (eqb b 0x3A) && not (eqb b 0x5B)
     && not (eqb b 0x5D) && not (eqb b 0x40) && not (eqb b 0x3D)
-
--- how many bytes stand before the first that a name may not hold
-unfoldable pub allowedAhead : List ℕ → ℕ
-allowedAhead [] = 0
-allowedAhead (b ∷ bs) = elim (nameByte b) [ true ↦ suc (allowedAhead bs) | false ↦ 0 ]
 
 -- the bytes from index i on: at most 31 in all, each allowed; none at all is wrong at 0
 unfoldable pub nameCheckFrom : ℕ → List ℕ → NameCheck

@@ -2,7 +2,8 @@
 ghost use mathlib.Core.Path.{_≡_};
 ghost use Prim.Native.Nat.{_+_, _<_};
 ghost use lib.ListN.{drop};
-ghost use Rattle.names.specs.Name.{nameByte, allowedAhead, nameCheck};
+ghost use Rattle.names.specs.Name.{nameByte, nameCheck};
+ghost use Rattle.names.specs.Helpers.{allowedAhead};
 
 // What the check of a name finds.
 pub enum NameCheck {

@@ -8,13 +8,15 @@ use borrow.Rule.Slice.PartMut.{putMid, midOf}
 use lib.ListN.{length, set, take, drop, replicate, length-append, length-drop, length-replicate}
 use lib.Seq.{take-at, length-take-le}
 use Rattle.lists.specs.Bytes.{AllBytes}
-use Rattle.lists.specs.Pasted.{pasted, movedBytes}
+use Rattle.lists.specs.Pasted.{pasted}
+use Rattle.lists.specs.Helpers.{movedBytes}
 use Rattle.lists.proofs.Tests.{clash}
 use Rattle.lists.proofs.PastedLaws.{length-pasted, pasted-none, pasted-last, drop-pasted-after, pasted-more, set-after}
 use Rattle.lists.proofs.MoveLaws.{moved-inside, part-filled}
 use Rattle.values.specs.declared.Written.{Written}
 use Rattle.values.specs.declared.Written.the-variants.{Length, NoRoom}
-use Rattle.values.specs.Value.{spelled, decode, encode, part, recoded, recodedOf, recodedIn}
+use Rattle.values.specs.Value.{spelled, decode, encode}
+use Rattle.values.specs.Helpers.{part, recoded, recodedOf, recodedIn}
 use Rattle.encoding.proofs.RecodeLaws.{Recodable, recoded-taken, recoded-short}
 use Rattle.errors.specs.declared.Error.{Error}
 use Rattle.pairs.specs.declared.PairAt.{PairAt}
@@ -26,8 +28,8 @@ use Rattle.pairs.specs.Area.{Pair, pairBytes, pairsBytes, Parse, parsed, parse}
 use Rattle.variables.specs.Edits.{canonicalPair, normalizePairs}
 use Rattle.variables.specs.Calls.{normalize, done, refused, Outcome, callArea}
 use Rattle.variables.proofs.CallLaws.{check-normalize, call-parsed, normalize-done as normalize-outcome}
-use Rattle.pairs.specs.Places.{placeOf, scannedOf}
-use Rattle.normalization.specs.Normalized.{PairMoves, pairRecoded, Parses, normalizedBytes}
+use Rattle.pairs.specs.Helpers.{placeOf, scannedOf}
+use Rattle.normalization.specs.Helpers.{PairMoves, pairRecoded, Parses, normalizedBytes}
 use Rattle.pairs.proofs.ScanLaws.{a-pair, stand-end, standing-stand}
 use Rattle.pairs.proofs.ParseLaws.{Good, none, more, pair-front, area-read}
 use Rattle.variables.proofs.EditLaws.{area-zeros}

@@ -1,1 +1,1 @@
-pub mod Normalized
+pub mod Helpers

@@ -8,9 +8,9 @@ ghost use Prim.Native.Nat.{_+_, _≤_, _<_};
 ghost use lib.ListN.{length};
 ghost use Rattle.lists.specs.Pasted.{pasted};
 ghost use Rattle.pairs.specs.Area.{parse};
-ghost use Rattle.variables.specs.Places.{editReply};
+ghost use Rattle.variables.specs.Answers.{editReply};
 ghost use Rattle.variables.specs.Calls as Calls;
-ghost use Rattle.normalization.specs.Normalized.{PairMoves, pairRecoded, Parses, normalizedBytes};
+ghost use Rattle.normalization.specs.Helpers.{PairMoves, pairRecoded, Parses, normalizedBytes};
 
 // Makes the pair at `at` canonical at `to`, at or before it; answers the offset after it.
 fn normalize_pair(area: &mut [u8], at: usize, equals: usize, end: usize, to: usize) -> usize

@@ -23,12 +23,13 @@ use Rattle.partitions.specs.Find.{findOf, areaOf}
 use Rattle.partitions.proofs.AreaLaws.{among-inside, area-part}
 use Rattle.variables.specs.declared.Counted.{Counted}
 use Rattle.variables.specs.declared.Counted.the-variants as Counted
-use Rattle.variables.specs.declared.ReadAnswer.{ReadAnswer}
-use Rattle.variables.specs.declared.ReadAnswer.the-variants as ReadAnswer
+use Rattle.variables.specs.declared.Fetched.{Fetched}
+use Rattle.variables.specs.declared.Fetched.the-variants as Fetched
 use Rattle.variables.specs.declared.Edited.{Edited}
 use Rattle.variables.specs.declared.Edited.the-variants as Edited
 use Rattle.variables.specs.Calls.{Action, setTo, removal, readInto, Call, named, set, remove, normalize, read, count, lent, callCheck, Reply, callArea}
-use Rattle.variables.specs.Places.{countReply, readReply, editReply, replyOffset}
+use Rattle.variables.specs.Helpers.{replyOffset}
+use Rattle.variables.specs.Answers.{countReply, readReply, editReply}
 use Rattle.variables.proofs.CallLaws.{check-named, check-normalize, check-count, Bufferless, a-count, buffer-none, reply-inside}
 use Rattle.nvram.specs.declared.Span.{Span}
 use Rattle.nvram.specs.declared.Span.the-variants as Span
@@ -166,20 +167,20 @@ module _ (I : List ℕ) (s e : ℕ) (k : AreaAt I s e) where
   pub count-offset : (a : Counted) (x : Error) → countReply a ≡ callArea count given .reply → a ≡ Counted.Refused x → s + offsetOf x ≤ length I
   count-offset a x q h = let z = ap (λ (r : Counted). replyOffset (countReply r)) h in omega (arith, offset-at count (countReply a) q)
 
-  module _ (name buffer : List ℕ) (a : ReadAnswer) (q : readReply a ≡ callArea (read name buffer) given .reply) where
-    pub read-done : (n : ℕ) (after : List ℕ) → after ≡ callArea (read name buffer) given .buffer → a ≡ ReadAnswer.Length n
-        → readTold (ReadAnswer.Length n) after ≡ callImage (read name buffer) I .told
+  module _ (name buffer : List ℕ) (a : Fetched) (q : readReply a ≡ callArea (read name buffer) given .reply) where
+    pub read-done : (n : ℕ) (after : List ℕ) → after ≡ callArea (read name buffer) given .buffer → a ≡ Fetched.Length n
+        → readTold (Fetched.Length n) after ≡ callImage (read name buffer) I .told
     read-done n after b h =
         (λ i. toldAt s (readReply (sym h i)) after) ∙ ((λ i. toldAt s (q i) (b i)) ∙ answer-at (read name buffer) I s e k)
 
-    pub read-moved : (x y : Error) (after : List ℕ) → after ≡ callArea (read name buffer) given .buffer → a ≡ ReadAnswer.Refused x → y ≡ moved s x
-        → readTold (ReadAnswer.Refused y) after ≡ callImage (read name buffer) I .told
+    pub read-moved : (x y : Error) (after : List ℕ) → after ≡ callArea (read name buffer) given .buffer → a ≡ Fetched.Refused x → y ≡ moved s x
+        → readTold (Fetched.Refused y) after ≡ callImage (read name buffer) I .told
     read-moved x y after b h m =
         (λ i. refusal (m i) after)
         ∙ ((λ i. toldAt s (readReply (sym h i)) after) ∙ ((λ i. toldAt s (q i) (b i)) ∙ answer-at (read name buffer) I s e k))
 
-    pub read-offset : (x : Error) → a ≡ ReadAnswer.Refused x → s + offsetOf x ≤ length I
-    read-offset x h = let z = ap (λ (r : ReadAnswer). replyOffset (readReply r)) h in omega (arith, offset-at (read name buffer) (readReply a) q)
+    pub read-offset : (x : Error) → a ≡ Fetched.Refused x → s + offsetOf x ≤ length I
+    read-offset x h = let z = ap (λ (r : Fetched). replyOffset (readReply r)) h in omega (arith, offset-at (read name buffer) (readReply a) q)
 
 -- nothing was found
 module _ (I : List ℕ) (e : Error) (f : commonOf I ≡ Refused e) where
@@ -199,7 +200,7 @@ module _ (I : List ℕ) (e : Error) (f : commonOf I ≡ Refused e) where
     pub remove-not : editTold (Edited.Refused x) ≡ callImage (remove name) I .told
     remove-not = (λ i. refusal (named-first removal i) []) ∙ answer-not (remove name) I e f
 
-    pub read-not : (buffer : List ℕ) → readTold (ReadAnswer.Refused x) buffer ≡ callImage (read name buffer) I .told
+    pub read-not : (buffer : List ℕ) → readTold (Fetched.Refused x) buffer ≡ callImage (read name buffer) I .told
     read-not buffer = (λ i. refusal (named-first (readInto buffer) i) buffer) ∙ answer-not (read name buffer) I e f
 
   pub image-not : (call : Call) → I ≡ callImage call I .image

@@ -11,10 +11,10 @@ use Rattle.partitions.specs.declared.Found.the-variants.{At, Refused}
 use Rattle.partitions.specs.Find.{areaOf}
 use Rattle.variables.specs.declared.CallAnswer.{CallAnswer}
 use Rattle.variables.specs.declared.Counted.{Counted}
-use Rattle.variables.specs.declared.ReadAnswer.{ReadAnswer}
+use Rattle.variables.specs.declared.Fetched.{Fetched}
 use Rattle.variables.specs.declared.Edited.{Edited}
 use Rattle.variables.specs.Calls.{Call, lent, callCheck, Reply, done, refused, Outcome, callArea}
-use Rattle.variables.specs.Answers.{doneAnswer, refusedAnswer, countedAnswer, lengthAnswer, editedAnswer}
+use Rattle.variables.specs.Answers.{doneAnswer, refusedAnswer, countedAnswer, fetchedAnswer, editedAnswer}
 use Rattle.nvram.specs.Common.{commonOf}
 
 -- what the caller is told by a call on variables: code, offset, a length or count, and the buffer afterwards
@@ -32,8 +32,8 @@ withBuffer a buffer = record { code = a .code; offset = a .offset; amount = a .a
 abbrev pub countTold : Counted → Told
 countTold r = withBuffer (countedAnswer r) []
 
-abbrev pub readTold : ReadAnswer → List ℕ → Told
-readTold r buffer = withBuffer (lengthAnswer r) buffer
+abbrev pub readTold : Fetched → List ℕ → Told
+readTold r buffer = withBuffer (fetchedAnswer r) buffer
 
 abbrev pub editTold : Edited → Told
 editTold r = withBuffer (editedAnswer r) []

@@ -1,4 +1,4 @@
--- What the private functions of the calls answer: where the variable area stands, and 11 before another error.
+-- For the private functions of the calls: where the variable area stands, and 11 before another error.
 use Prim.Native.Nat.{_+_}
 use Rattle.errors.specs.declared.Error.{Error}
 use Rattle.errors.specs.declared.Error.the-variants.{BadName}

@@ -5,14 +5,15 @@ use names::NameCheck;
 use partitions::Found;
 use variables::Counted;
 use variables::Edited;
-use variables::ReadAnswer;
+use variables::Fetched;
 ghost use mathlib.Core.Path.{_≡_};
 ghost use mathlib.Core.List.{[]};
 ghost use Prim.Native.Nat.{_+_, _<_, _^_};
 ghost use Rattle.errors.specs.Errors.{offsetOf, moved};
 ghost use Rattle.names.specs.Name.{nameCheck};
 ghost use Rattle.variables.specs.Calls as Calls;
-ghost use Rattle.variables.specs.Places.{editReply, replyOffset};
+ghost use Rattle.variables.specs.Helpers.{replyOffset};
+ghost use Rattle.variables.specs.Answers.{editReply};
 ghost use Rattle.nvram.specs.Common.{commonOf};
 ghost use Rattle.nvram.specs.Calls.{countTold, readTold, editTold, toldAt, callImage};
 ghost use Rattle.nvram.specs.Helpers.{areaSpan, nameFirst};
@@ -106,15 +107,15 @@ pub fn count(image: &[u8]) -> Counted
 }
 
 // Reads a variable into a buffer: the length of its value, which stands at the buffer's start.
-pub fn read(image: &[u8], name: &[u8], buffer: &mut [u8]) -> ReadAnswer
+pub fn read(image: &[u8], name: &[u8], buffer: &mut [u8]) -> Fetched
     ensures { λ r. ⌜ readTold r (now (buffer .exit)) ≡ callImage (Calls.read (now (name .entry)) (now (buffer .entry))) (now (image .entry)) .told ⌝ }
 {
     match common_area(image) {
         Span::At { start, end } => match variables::read(&image[start..end], name, buffer) {
-            ReadAnswer::Length(n) => ReadAnswer::Length(n),
-            ReadAnswer::Refused(e) => ReadAnswer::Refused(moved_error(e, start)),
+            Fetched::Length(n) => Fetched::Length(n),
+            Fetched::Refused(e) => Fetched::Refused(moved_error(e, start)),
         },
-        Span::Refused(e) => ReadAnswer::Refused(name_first(name, e)),
+        Span::Refused(e) => Fetched::Refused(name_first(name, e)),
     }
 }
 

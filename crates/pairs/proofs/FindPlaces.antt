@@ -10,13 +10,13 @@ use lib.Seq.{take-at, length-take-le, getD-take, getD-drop}
 use borrow.Author.Tests.{eq-eqb, ne-eqb}
 use Rattle.lists.specs.Bytes.{sameBytes}
 use Rattle.lists.proofs.ByteLaws.{same-false, same-step}
-use Rattle.values.specs.Value.{part}
+use Rattle.values.specs.Helpers.{part}
 use Rattle.pairs.specs.declared.PairAt.{PairAt}
 use Rattle.pairs.specs.declared.PairAt.the-variants as PairAt
 use Rattle.pairs.specs.declared.Place.{Place}
 use Rattle.pairs.specs.declared.Place.the-variants.{At, None}
 use Rattle.pairs.specs.Scan.{Stand, pair, finish, cut, wrongName, wrongEscape, standAt}
-use Rattle.pairs.specs.Places.{placeOf, onFind, findFrom, findAt, firstPlace}
+use Rattle.pairs.specs.Helpers.{placeOf, onFind, findFrom, findAt, firstPlace}
 use Rattle.pairs.proofs.PairPlaces.{pair-here, PairSeen}
 
 -- the name of a pair that the code has seen

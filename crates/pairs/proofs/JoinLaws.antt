@@ -11,7 +11,7 @@ use Rattle.lists.proofs.Tests.{split, clash}
 use Rattle.errors.specs.declared.AreaFault.the-variants.{AreaEnd, StoredName, Escape, Repeated}
 use Rattle.repeats.specs.declared.Repeat.{Repeat}
 use Rattle.repeats.specs.declared.Repeat.the-variants.{At, None}
-use Rattle.repeats.specs.Pieces.{stands, endsName, nameOf, nameAt, startsFrom, starts, repeatIn, firstRepeat}
+use Rattle.repeats.specs.Pieces.{stands, endsName, nameOf, pieceName, startsFrom, starts, repeatIn, firstRepeat}
 use Rattle.pairs.specs.declared.PairAt.{PairAt}
 use Rattle.pairs.specs.declared.PairAt.the-variants as PairAt
 use Rattle.pairs.specs.declared.Scanned.{Scanned}
@@ -19,7 +19,7 @@ use Rattle.pairs.specs.declared.Scanned.the-variants.{Pairs}
 use Rattle.pairs.specs.declared.Place.{Place}
 use Rattle.pairs.specs.Scan.{Stand, pair, finish, cut, wrongName, wrongEscape, standAt}
 use Rattle.pairs.specs.Area.{Pair, pairOf, pairBytes, pairsBytes, Parse, parsed, faulty, firstPair, onStand, parseFrom, parse}
-use Rattle.pairs.specs.Places.{placeOf, scannedOf, closedOf, orRepeat}
+use Rattle.pairs.specs.Helpers.{placeOf, scannedOf, closedOf, orRepeat}
 use Rattle.pairs.proofs.PairPlaces.{Goes, NotZero, drop-past, pair-here}
 use Rattle.pairs.proofs.PairRuns.{PairRun, none, more, pair-bytes, CleanPairs, run-clean, Walked, walked-length, walked-take}
 use Rattle.pairs.proofs.ParseLaws.{length-pair}
@@ -80,8 +80,8 @@ module _ (l : List ℕ) (at : ℕ) (seen : List (List ℕ)) (name stored m : Lis
       ap (startsFrom true at) joined ∙ starts-piece at (name ++ 0x3D ∷ stored) m (every-joined name stored cn cs)
       ∙ ap (λ (k : ℕ). at ∷ startsFrom true k m) past-is
 
-  piece-name : nameAt l at ≡ name
-  unfolding nameAt
+  piece-name : pieceName l at ≡ name
+  unfolding pieceName
   piece-name = ap nameOf (d ∙ pair-bytes name stored m) ∙ name-of name (stored ++ 0x00 ∷ m) cn
 
   piece-rest : drop past l ≡ m

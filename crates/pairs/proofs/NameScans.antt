@@ -1,7 +1,6 @@
 -- What a scan of a stored name finds, byte by byte and by the check of the whole name.
 use Prim.Native.Nat.{ℕ, zero, suc, _+_, _≤_, _<_}
 use mathlib.Core.Path.{_≡_, refl, sym, ap, _∙_}
-use mathlib.Core.Bool.{true, false}
 use mathlib.Core.List.{List, [], _∷_, _++_, append-nil}
 use mathlib.Core.Logic.{_≢_, _⊎_, inl, inr}
 use native.Mathlib.Omega.{arith}
@@ -17,7 +16,7 @@ use Rattle.names.specs.Rules.{NameByte, NameRule, empty, byte}
 use Rattle.names.proofs.NameLaws.{name-byte-exactly, not-byte, check-good-exactly, check-wrong-exactly}
 use Rattle.pairs.specs.Scan.{Scan, ends, bad, short, and, storedName, pastName, scanName}
 use Rattle.pairs.specs.Rules.{BadByte, not-allowed, equals-at-once, thirty-second}
-use Rattle.pairs.specs.Places.{scanNameFrom}
+use Rattle.pairs.specs.Helpers.{scanNameFrom}
 
 -- ---- one byte more
 

@@ -18,7 +18,7 @@ use Rattle.pairs.specs.declared.ScanEnd.the-variants.{At, Wrong, Cut}
 use Rattle.pairs.specs.declared.PairAt.{PairAt}
 use Rattle.pairs.specs.declared.PairAt.the-variants as PairAt
 use Rattle.pairs.specs.Scan.{Scan, ends, bad, short, scanValue, Stand, pair, finish, cut, wrongName, wrongEscape, onValue, onName, standAt}
-use Rattle.pairs.specs.Places.{scanNameFrom, endOf, placeOf}
+use Rattle.pairs.specs.Helpers.{scanNameFrom, endOf, placeOf}
 use Rattle.pairs.proofs.NameScans.{and-ends}
 use Rattle.pairs.proofs.ScanLaws.{stand-begun}
 

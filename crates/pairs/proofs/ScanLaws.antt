@@ -1,5 +1,5 @@
 -- What a scan of a stored value finds, and what stands where a pair would begin: each outcome, exactly when.
-use Prim.Native.Nat.{ℕ, _+_, _≤_, _<_}
+use Prim.Native.Nat.{ℕ, _+_, _≤_}
 use mathlib.Core.Path.{_≡_, refl, sym, ap, _∙_}
 use mathlib.Core.Bool.{Bool, true, false}
 use mathlib.Core.List.{List, [], _∷_, _++_, append-nil}
@@ -14,7 +14,7 @@ use Rattle.names.specs.Rules.{NameByte, NameRule}
 use Rattle.values.specs.Value.{spelled, spelledFrom}
 use Rattle.pairs.specs.Scan.{Scan, ends, bad, short, and, scanValue, Stand, pair, finish, cut, wrongName, wrongEscape, onValue, onName, standAt}
 use Rattle.pairs.specs.Rules.{BadByte}
-use Rattle.pairs.specs.Places.{scanNameFrom}
+use Rattle.pairs.specs.Helpers.{scanNameFrom}
 use Rattle.pairs.proofs.NameScans.{and-ends, and-short, and-bad, bad-is, scan-name, name-scan, ScannedWrong, name-bad-from, bad-name-from, name-short-from, short-name-from, scan-check}
 
 -- ---- a stored value, byte by byte; after: the byte before was an escape's 0xFF

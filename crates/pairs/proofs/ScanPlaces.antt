@@ -10,14 +10,15 @@ use lib.Dec.{eqb}
 use lib.ListN.{length, getD, drop, length-drop, drop-of-length-le}
 use borrow.Author.Tests.{lt-ltb, le-ltb, eq-eqb, ne-eqb, eqb-false}
 use Rattle.lists.proofs.Tests.{split, clash}
-use Rattle.names.specs.Name.{nameByte, allowedAhead}
+use Rattle.names.specs.Name.{nameByte}
+use Rattle.names.specs.Helpers.{allowedAhead}
 use Rattle.names.proofs.AheadLaws.{ahead-short, end-before, end-there}
 use Rattle.lists.proofs.ListLaws.{drop-next}
-use Rattle.lists.specs.Find.{untilEither}
+use Rattle.lists.specs.Helpers.{untilEither}
 use Rattle.lists.proofs.FindLaws.{until-short, either-ahead, either-there, either-before}
 use Rattle.pairs.specs.declared.ScanEnd.the-variants.{At, Wrong, Cut}
 use Rattle.pairs.specs.Scan.{Scan, ends, bad, short, and, scanValue}
-use Rattle.pairs.specs.Places.{scanNameFrom, endOf}
+use Rattle.pairs.specs.Helpers.{scanNameFrom, endOf}
 
 -- one byte more in front
 end-and : (from at b : ℕ) (s : Scan) → endOf from at (and b s) ≡ endOf from (at + 1) s

@@ -1,6 +1,6 @@
 -- The variable area: pairs, the ending 0x00, padding; and its faults 7 to 10, whose offsets count from the area's first byte.
 use Prim.Native.Nat.{ℕ, zero, suc, _+_}
-use mathlib.Core.Bool.{Bool, true, false, cond}
+use mathlib.Core.Bool.{cond}
 use mathlib.Core.List.{List, [], _∷_, _++_}
 use lib.ListN.{length}
 unfoldable pub use Rattle.repeats.specs.Pieces.{stands}

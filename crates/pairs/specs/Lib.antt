@@ -1,4 +1,4 @@
 pub mod Scan
 pub mod Area
-pub mod Places
 pub mod Rules
+pub mod Helpers

@@ -9,7 +9,7 @@ ghost use lib.ListN.{length, take, drop};
 ghost use Rattle.repeats.specs.Pieces.{firstRepeat};
 ghost use Rattle.pairs.specs.Scan.{scanValue, standAt};
 ghost use Rattle.pairs.specs.Area.{parse};
-ghost use Rattle.pairs.specs.Places.{scanNameFrom, endOf, placeOf, orRepeat, scannedOf, closedOf, firstPlace, findAt};
+ghost use Rattle.pairs.specs.Helpers.{scanNameFrom, endOf, placeOf, orRepeat, scannedOf, closedOf, firstPlace, findAt};
 
 // Where a scan of a name or of a value ends.
 enum ScanEnd {

@@ -2,17 +2,16 @@
 use Prim.Native.Nat.{ℕ, suc, zero, _-_, _≤_, _<_}
 use mathlib.Core.Path.{_≡_, ap, subst, refl, sym, _∙_}
 use mathlib.Core.Logic.{_↔_}
-use mathlib.Core.Bool.{true, false, _&&_}
+use mathlib.Core.Bool.{true, false}
 use mathlib.Core.List.{List, [], _∷_}
 use native.Mathlib.Omega.{arith}
 use lib.ListN.{length}
-use lib.Dec.{leb, eqb}
 use borrow.Author.Tests.{eq-eqb, le-leb, eqb-true, leb-true}
 use Rattle.lists.specs.Bytes.{AllBytes}
 use Rattle.lists.proofs.Tests.{split, clash, and-true}
 use Rattle.errors.specs.declared.Error.{Error}
 use Rattle.errors.specs.declared.HeaderFault.{HeaderFault}
-use Rattle.errors.specs.declared.Error.the-variants.{ImageLength, BadHeader}
+use Rattle.errors.specs.declared.Error.the-variants.{BadHeader}
 use Rattle.header.specs.declared.Validity.the-variants.{Invalid}
 use Rattle.header.specs.Header.{headerAt, validityAt}
 use Rattle.header.specs.Rules.{blocksAt, Sound, Breaks}
@@ -21,7 +20,6 @@ use Rattle.header.proofs.ValidityLaws.{invalid-here}
 use Rattle.partitions.specs.declared.Partition.{Partition}
 use Rattle.partitions.specs.declared.Step.{Step}
 use Rattle.partitions.specs.declared.Step.the-variants.{Next, End, Broken}
-use Rattle.partitions.specs.declared.Checked.{Checked}
 use Rattle.partitions.specs.declared.Checked.the-variants.{Accepted as Accepts, Refused as Refuses}
 use Rattle.partitions.specs.Walk.{allowedLength, partitionOf, pastOf, stepAt, Walk, covered, broken, first, onStep, walkFrom, walk}
 use Rattle.partitions.specs.Find.{checkedBy, checkOf}

@@ -1,5 +1,5 @@
 -- The loop that looks for a partition by its index.
-use Prim.Native.Nat.{ℕ, suc, zero, _-_, _<_}
+use Prim.Native.Nat.{ℕ, suc, zero, _-_}
 use mathlib.Core.Path.{_≡_, ap, refl, sym, _∙_}
 use mathlib.Core.Bool.{true, false}
 use mathlib.Core.List.{List, [], _∷_}
@@ -10,7 +10,8 @@ use Rattle.partitions.specs.declared.Partition.{Partition}
 use Rattle.partitions.specs.declared.Found.{Found}
 use Rattle.partitions.specs.declared.Found.the-variants.{At, Refused}
 use Rattle.partitions.specs.Walk.{Walk, covered, broken, allowedLength}
-use Rattle.partitions.specs.Find.{keepFirst, atIndex, indexBy, indexOf}
+use Rattle.partitions.specs.Find.{atIndex, indexBy, indexOf}
+use Rattle.partitions.specs.Helpers.{keepFirst}
 use Rattle.partitions.proofs.WalkLaws.{rest, walk-rest, walk-refused, onWalk}
 
 -- n partitions are to be passed

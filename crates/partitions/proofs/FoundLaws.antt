@@ -1,8 +1,8 @@
 -- What finding a partition answers, exactly: the first of its name, the one of its index, or the error that refuses it.
-use Prim.Native.Nat.{ℕ, suc, zero, _+_, _-_, _≤_, _<_}
+use Prim.Native.Nat.{ℕ, suc, zero, _+_, _-_, _≤_}
 use mathlib.Core.Path.{_≡_, ap, refl, sym, _∙_}
 use mathlib.Core.Logic.{_↔_, _⊎_, inl, inr}
-use mathlib.Core.Bool.{true, false, _&&_}
+use mathlib.Core.Bool.{true, false}
 use mathlib.Core.List.{List, [], _∷_, _++_}
 use native.Mathlib.Omega.{arith}
 use lib.ListN.{length, length-append, length-replicate}
@@ -20,7 +20,7 @@ use Rattle.partitions.specs.declared.Found.{Found}
 use Rattle.partitions.specs.declared.Found.the-variants.{At, Refused}
 use Rattle.partitions.specs.Walk.{Walk, covered, broken, walk}
 use Rattle.partitions.specs.Find.{padded, matches, firstMatch, findBy, findOf, atIndex, indexBy, indexOf}
-use Rattle.partitions.specs.Cover.{Accepted, Rejected, header, Named, NoneNamed, FirstNamed, Indexed, NotNamed, NotIndexed}
+use Rattle.partitions.specs.Cover.{Accepted, Rejected, Named, NoneNamed, FirstNamed, Indexed, NotNamed, NotIndexed}
 use Rattle.partitions.proofs.CoverLaws.{Walked, accepts, rejects, walked, accepted-exactly, rejected-exactly}
 
 pub length-padded : (n : ℕ) (name : List ℕ) → length (padded n name) ≡ length name + (n - length name)

@@ -1,19 +1,18 @@
 -- Bytes changed inside the data area of one partition leave every header: the walk, what is found, and every byte outside.
 use Prim.Native.Nat.{ℕ, zero, suc, _+_, _-_, _*_, _≤_, _<_}
 use mathlib.Core.Path.{_≡_, refl, sym, ap, _∙_}
-use mathlib.Core.Bool.{Bool, true, false, cond}
-use mathlib.Core.List.{List, [], _∷_, _++_, append-assoc}
+use mathlib.Core.Bool.{true, cond}
+use mathlib.Core.List.{List, [], _∷_, _++_}
 use native.Mathlib.Omega.{arith}
-use lib.ListN.{length, take, drop, length-drop, take-append-drop}
+use lib.ListN.{length, take, drop}
 use lib.Dec.{leb}
-use lib.Seq.{length-take-le, take-at, drop-drop}
+use lib.Seq.{take-at}
 use Rattle.lists.specs.Bytes.{AllBytes}
 use Rattle.lists.specs.Pasted.{pasted}
 use Rattle.lists.proofs.Tests.{split, clash}
 use Rattle.lists.proofs.ByteLaws.{every-drop, every-take}
 use Rattle.lists.proofs.PastedLaws.{length-pasted, take-pasted-before, drop-pasted-after, drop-pasted-at, bytes-pasted}
 use Rattle.header.specs.declared.Blocks.{Blocks}
-use Rattle.header.specs.declared.Header.{Header}
 use Rattle.header.specs.declared.Validity.{Validity}
 use Rattle.header.specs.declared.Validity.the-variants.{Valid, Invalid}
 use Rattle.header.specs.Header.{headerAt, bytesOf, validityAt}
@@ -29,7 +28,7 @@ use Rattle.partitions.specs.Walk.{partitionOf, pastOf, stepAt, Walk, cov
 use Rattle.partitions.specs.Find.{matches, firstMatch, findBy, findOf, areaOf}
 use Rattle.partitions.specs.Cover.{pastAt, areaAt, OutsideKept}
 use Rattle.partitions.proofs.WalkLaws.{View, ends, goes, breaks, view, past-bounds}
-use Rattle.partitions.proofs.AreaLaws.{Among, found-among, Inside, among-inside, area-long, area-back}
+use Rattle.partitions.proofs.AreaLaws.{Among, among-inside, area-long, area-back}
 
 -- ---- two images as long, by their headers
 

@@ -1,6 +1,6 @@
 -- The image check, a partition by its index or by its signature and name, and its data area.
 use Prim.Native.Nat.{ℕ, zero, suc, _+_, _-_}
-use mathlib.Core.Bool.{Bool, true, false, _&&_, cond}
+use mathlib.Core.Bool.{Bool, _&&_, cond}
 use mathlib.Core.List.{List, [], _∷_, _++_}
 use lib.ListN.{length, take, drop, replicate}
 use lib.Dec.{eqb}
@@ -43,11 +43,6 @@ padded n name = name ++ replicate (n - length name) 0
 unfoldable pub matches : List ℕ → ℕ → List ℕ → ℕ → Bool
 matches image signature name at =
     eqb (headerAt image at .signature) signature && sameBytes (headerAt image at .name) (padded 12 name)
-
--- what was found before, or else the partition where it is wanted
-abbrev pub keepFirst : Found → Bool → Partition → Found
-keepFirst (At q) wanted p = At q
-keepFirst (Refused e) wanted p = cond wanted (At p) (Refused e)
 
 -- the first in image order that matches; code 6 where none does
 unfoldable pub firstMatch : List ℕ → ℕ → List ℕ → List Partition → Found

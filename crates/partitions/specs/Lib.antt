@@ -3,3 +3,4 @@ pub mod Find
 pub mod Answers
 pub mod Cover
 pub mod Examples
+pub mod Helpers

@@ -2,7 +2,8 @@
 ghost use mathlib.Core.Path.{_≡_};
 ghost use mathlib.Core.Bool.{true};
 ghost use Rattle.partitions.specs.Walk.{allowedLength, stepAt};
-ghost use Rattle.partitions.specs.Find.{keepFirst, checkOf, indexOf};
+ghost use Rattle.partitions.specs.Find.{checkOf, indexOf};
+ghost use Rattle.partitions.specs.Helpers.{keepFirst};
 ghost use Rattle.partitions.specs.Answers.{stepAnswer, checkAnswer, findAnswer};
 use errors::Error;
 use header::Blocks;

@@ -9,14 +9,14 @@ use lib.ListN.{length, getD, set, replicate, length-replicate}
 use lib.Seq.{getD-set-same, getD-set-other}
 use borrow.Author.Tests.{ltb-true, ltb-false}
 use Rattle.lists.proofs.Tests.{split}
-use Rattle.repeats.specs.Pieces.{nameAt, starts}
-use Rattle.repeats.specs.Places.{Start, Next, Distinct, Best}
-use Rattle.repeats.specs.Table.{placed, Table, Hit, Walked, Entry, Holds, Block, Turn, Gathered}
+use Rattle.repeats.specs.Pieces.{pieceName, starts}
+use Rattle.repeats.specs.Helpers.Places.{Start, Next, Distinct, Best}
+use Rattle.repeats.specs.Helpers.Table.{placed, Table, Hit, Walked, Slot, Filled, Block, Turn, Gathered}
 use Rattle.repeats.proofs.PlacedLaws.{placed-length}
 use Rattle.repeats.proofs.TableLaws.{split-eq, inserted, new-table}
 
 -- a block
-pub empty-holds : (l starts : List ℕ) (from : ℕ) → Holds l starts 0 from from
+pub empty-holds : (l starts : List ℕ) (from : ℕ) → Filled l starts 0 from from
 empty-holds l starts from = record {
   begins = λ i h. absurd (omega arith);
   low = λ i h. absurd (omega arith);
@@ -36,8 +36,8 @@ empty-block {l} {links} {starts} {from} {best} t d h b s = record {
 }
 
 -- the name at `at` stands at no start below mid: one start more is distinct
-distinct-next : {l starts : List ℕ} {k from mid best at r : ℕ} → Holds l starts k from mid → Distinct l from best → Distinct l mid at
-    → at < best → mid ≤ at → Next l at r → ((i : ℕ) → i < k → nameAt l (getD starts i 0) ≡ nameAt l at → ⊥) → Distinct l mid r
+distinct-next : {l starts : List ℕ} {k from mid best at r : ℕ} → Filled l starts k from mid → Distinct l from best → Distinct l mid at
+    → at < best → mid ≤ at → Next l at r → ((i : ℕ) → i < k → pieceName l (getD starts i 0) ≡ pieceName l at → ⊥) → Distinct l mid r
 distinct-next {l} {starts} {k} {from} {mid} {best} {at} {r} hs d m h o n miss = record {
   differ = λ p q a b c u v e.
       split (ltb q at)
@@ -45,14 +45,14 @@ distinct-next {l} {starts} {k} {from} {mid} {best} {at} {r} hs d m h o n miss = 
       (λ t. split-eq q at
       (λ w. split (ltb p from)
       (λ y. d .differ p q (ltb-true p from y) b (omega arith) u v e)
-      (λ y. let en : Entry starts k p = hs .full p (ltb-false p from y) a u in
-      miss (en .entry) (en .below) (ap (λ (z : ℕ). nameAt l z) (en .is) ∙ e ∙ ap (λ (z : ℕ). nameAt l z) w)))
+      (λ y. let en : Slot starts k p = hs .full p (ltb-false p from y) a u in
+      miss (en .entry) (en .below) (ap (λ (z : ℕ). pieceName l z) (en .is) ∙ e ∙ ap (λ (z : ℕ). pieceName l z) w)))
       (λ w. absurd (n .none q (omega (arith, ltb-false q at t)) c v)));
 }
 
 -- the same where the start itself joins the block
-distinct-grow : {l starts : List ℕ} {k from best at r : ℕ} → Holds l starts k from at → Distinct l from best → Distinct l at at
-    → at < best → Next l at r → ((i : ℕ) → i < k → nameAt l (getD starts i 0) ≡ nameAt l at → ⊥) → Distinct l r r
+distinct-grow : {l starts : List ℕ} {k from best at r : ℕ} → Filled l starts k from at → Distinct l from best → Distinct l at at
+    → at < best → Next l at r → ((i : ℕ) → i < k → pieceName l (getD starts i 0) ≡ pieceName l at → ⊥) → Distinct l r r
 distinct-grow {l} {starts} {k} {from} {best} {at} {r} hs d m h n miss =
     let g : Distinct l at r = distinct-next hs d m h (omega arith) n miss in
     record {
@@ -62,7 +62,7 @@ distinct-grow {l} {starts} {k} {from} {best} {at} {r} hs d m h n miss =
           (λ t. n .none q (omega (arith, ltb-false p at t)) c v);
     }
 
-holds-more : {l starts : List ℕ} {k from at r : ℕ} → k < length starts → Holds l starts k from at → from ≤ at → Start l at → Next l at r → Holds l (set starts k at) (k + 1) from r
+holds-more : {l starts : List ℕ} {k from at r : ℕ} → k < length starts → Filled l starts k from at → from ≤ at → Start l at → Next l at r → Filled l (set starts k at) (k + 1) from r
 holds-more {l} {starts} {k} {from} {at} {r} room hs o st n = record {
   begins = λ i h. split-eq i k
       (λ q. subst (λ (z : ℕ). Start l z) (sym (new i q)) st)
@@ -72,7 +72,7 @@ holds-more {l} {starts} {k} {from} {at} {r} room hs o st n = record {
   full = λ p a b s. split-eq p at
       (λ q. record { entry = k; below = omega arith; is = new k refl ∙ sym q })
       (λ q. split (ltb p at)
-      (λ t. let en : Entry starts k p = hs .full p a (ltb-true p at t) s in
+      (λ t. let en : Slot starts k p = hs .full p a (ltb-true p at t) s in
       record { entry = en .entry; below = omega (arith, en .below); is = old (en .entry) (λ w. omega (arith, en .below)) ∙ en .is })
       (λ t. absurd (n .none p (omega (arith, ltb-false p at t)) b s)));
 }

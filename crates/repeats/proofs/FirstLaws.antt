@@ -12,14 +12,14 @@ use Rattle.lists.proofs.Tests.{split}
 use Rattle.lists.proofs.ByteLaws.{same-refl, same-true}
 use Rattle.repeats.specs.declared.Repeat.{Repeat}
 use Rattle.repeats.specs.declared.Repeat.the-variants.{At, None}
-use Rattle.repeats.specs.Pieces.{stands, nameAt, startsFrom, starts, repeatIn, firstRepeat}
-use Rattle.repeats.specs.Places.{Start, Distinct, Early, Best}
+use Rattle.repeats.specs.Pieces.{stands, pieceName, startsFrom, starts, repeatIn, firstRepeat}
+use Rattle.repeats.specs.Helpers.Places.{Start, Distinct, Early, Best}
 use Rattle.lists.proofs.ListLaws.{drop-next}
 
 -- the names before `at`
 record Seen (l : List ℕ) (at : ℕ) (seen : List (List ℕ)) : Type 0 where
-  sound : (name : List ℕ) → stands name seen ≡ true → (p : ℕ) × (p < at) × Start l p × (nameAt l p ≡ name)
-  all : (p : ℕ) → p < at → Start l p → stands (nameAt l p) seen ≡ true
+  sound : (name : List ℕ) → stands name seen ≡ true → (p : ℕ) × (p < at) × Start l p × (pieceName l p ≡ name)
+  all : (p : ℕ) → p < at → Start l p → stands (pieceName l p) seen ≡ true
 
 -- a piece begins at `at`
 record Fresh (l : List ℕ) (at : ℕ) (fresh : Bool) : Type 0 where
@@ -43,16 +43,16 @@ or-right : (a b : Bool) → b ≡ true → (a || b) ≡ true
 or-right true b e = refl
 or-right false b e = e
 
-seen-more : (l : List ℕ) (at : ℕ) (seen : List (List ℕ)) → Start l at → Seen l at seen → Seen l (at + 1) (nameAt l at ∷ seen)
+seen-more : (l : List ℕ) (at : ℕ) (seen : List (List ℕ)) → Start l at → Seen l at seen → Seen l (at + 1) (pieceName l at ∷ seen)
 unfolding stands
 seen-more l at seen st s = record {
-  sound = λ name e. or-cases (sameBytes name (nameAt l at)) (stands name seen) e
-      (λ t. (at, omega arith, st, sym (same-true name (nameAt l at) t)))
+  sound = λ name e. or-cases (sameBytes name (pieceName l at)) (stands name seen) e
+      (λ t. (at, omega arith, st, sym (same-true name (pieceName l at) t)))
       (λ t. let r = s .sound name t in (r .0, omega (arith, r .1), r .2, r .3));
   all = λ p h u. split (ltb p at)
-      (λ t. or-right (sameBytes (nameAt l p) (nameAt l at)) (stands (nameAt l p) seen) (s .all p (ltb-true p at t) u))
+      (λ t. or-right (sameBytes (pieceName l p) (pieceName l at)) (stands (pieceName l p) seen) (s .all p (ltb-true p at t) u))
       (λ t. let e : p ≡ at = omega (arith, ltb-false p at t) in
-      let q : sameBytes (nameAt l p) (nameAt l at) ≡ true = ap (λ (z : ℕ). sameBytes (nameAt l z) (nameAt l at)) e ∙ same-refl (nameAt l at) in
+      let q : sameBytes (pieceName l p) (pieceName l at) ≡ true = ap (λ (z : ℕ). sameBytes (pieceName l z) (pieceName l at)) e ∙ same-refl (pieceName l at) in
       rw q);
 }
 
@@ -91,8 +91,8 @@ module _ (l : List ℕ) (best : ℕ) (found : Bool) (d : Distinct l best best) (
           → answer found best ≡ repeatIn l seen (startsFrom fresh at (b ∷ rest))
       go true f i rec =
           let st : Start l at = record { inside = i; after = f .yes refl } in
-          split (stands (nameAt l at) seen)
-          (λ t. let r = s .sound (nameAt l at) t in
+          split (stands (pieceName l at) seen)
+          (λ t. let r = s .sound (pieceName l at) t in
           split (ltb at best)
           (λ w. absurd (d .differ (r .0) at (omega (arith, r .1)) (r .1) (ltb-true at best w) (r .2) st (r .3)))
           (λ w. let q : at ≡ best = omega (arith, ltb-false at best w) in
@@ -100,13 +100,13 @@ module _ (l : List ℕ) (best : ℕ) (found : Bool) (d : Distinct l best best) (
           (λ y. rw (t, y, q, repeatIn))
           (λ y. absurd (omega (arith, miss y)))))
           (λ t. split (ltb at best)
-          (λ w. rw (t, repeatIn) (rec (nameAt l at ∷ seen) (omega (arith, ltb-true at best w)) (seen-more l at seen st s)))
+          (λ w. rw (t, repeatIn) (rec (pieceName l at ∷ seen) (omega (arith, ltb-true at best w)) (seen-more l at seen st s)))
           (λ w. let q : at ≡ best = omega (arith, ltb-false at best w) in
           split found
           (λ y. let ea : Early l best = hit y in
-          let g : stands (nameAt l (ea .place)) seen ≡ true = s .all (ea .place) (omega (arith, ea .before)) (ea .first) in
-          let g2 : nameAt l (ea .place) ≡ nameAt l at = ea .same ∙ ap (λ (z : ℕ). nameAt l z) (sym q) in
-          let g3 : stands (nameAt l at) seen ≡ true = ap (λ (z : List ℕ). stands z seen) (sym g2) ∙ g in
+          let g : stands (pieceName l (ea .place)) seen ≡ true = s .all (ea .place) (omega (arith, ea .before)) (ea .first) in
+          let g2 : pieceName l (ea .place) ≡ pieceName l at = ea .same ∙ ap (λ (z : ℕ). pieceName l z) (sym q) in
+          let g3 : stands (pieceName l at) seen ≡ true = ap (λ (z : List ℕ). stands z seen) (sym g2) ∙ g in
           let z : _≡_ {A = ℕ} 0 1 = cc in absurd (omega arith))
           (λ y. absurd (omega (arith, miss y)))))
       go false f i rec =

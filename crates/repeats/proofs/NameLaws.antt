@@ -11,22 +11,22 @@ use lib.ListN.{length, getD, drop-of-length-le}
 use borrow.Author.Tests.{eq-eqb, ne-eqb, ltb-true, ltb-false}
 use Rattle.lists.specs.Bytes.{sameBytes}
 use Rattle.lists.proofs.Tests.{split}
-use Rattle.repeats.specs.Pieces.{endsName, nameOf, nameAt}
-use Rattle.repeats.specs.Places.{NameByte}
-use Rattle.repeats.specs.Table.{mixed, hashFrom, hashOf}
+use Rattle.repeats.specs.Pieces.{endsName, nameOf, pieceName}
+use Rattle.repeats.specs.Helpers.Places.{PieceByte}
+use Rattle.repeats.specs.Helpers.Table.{mixed, hashFrom, hashOf}
 use Rattle.lists.proofs.ListLaws.{drop-next}
 
 -- a byte of a name
-pub name-none : (l : List ℕ) (at : ℕ) → length l ≤ at → NameByte l at 0
-unfolding nameAt nameOf
+pub name-none : (l : List ℕ) (at : ℕ) → length l ≤ at → PieceByte l at 0
+unfolding pieceName nameOf
 name-none l at h = record { ended = λ _. rw (drop-of-length-le l h); goes = λ z. absurd (omega arith); within = λ z. absurd (omega arith) }
 
-pub name-stop : (l : List ℕ) (at : ℕ) → at < length l → getD l at 0 ≡ 61 → NameByte l at 0
-unfolding nameAt nameOf endsName
+pub name-stop : (l : List ℕ) (at : ℕ) → at < length l → getD l at 0 ≡ 61 → PieceByte l at 0
+unfolding pieceName nameOf endsName
 name-stop l at h e = record { ended = λ _. rw (drop-next l at h, e, nameOf); goes = λ z. absurd (omega arith); within = λ z. absurd (omega arith) }
 
-pub name-byte : (l : List ℕ) (at : ℕ) → at < length l → (getD l at 0 ≡ 61 → ⊥) → NameByte l at (getD l at 0)
-unfolding nameAt nameOf endsName
+pub name-byte : (l : List ℕ) (at : ℕ) → at < length l → (getD l at 0 ≡ 61 → ⊥) → PieceByte l at (getD l at 0)
+unfolding pieceName nameOf endsName
 name-byte l at h e = record {
   ended = λ z. rw (drop-next l at h, z, nameOf);
   goes = λ z. rw (drop-next l at h, ne-eqb (getD l at 0) 61 e, ne-eqb (getD l at 0) 0 (λ q. omega arith), nameOf);
@@ -34,16 +34,16 @@ name-byte l at h e = record {
 }
 
 -- two names, byte by byte
-module _ {l : List ℕ} {i j x y : ℕ} (a : NameByte l i x) (b : NameByte l j y) where
-  pub bytes-end : x ≡ y → x ≡ 0 → sameBytes (nameAt l i) (nameAt l j) ≡ true
+module _ {l : List ℕ} {i j x y : ℕ} (a : PieceByte l i x) (b : PieceByte l j y) where
+  pub bytes-end : x ≡ y → x ≡ 0 → sameBytes (pieceName l i) (pieceName l j) ≡ true
   unfolding sameBytes
   bytes-end e z = rw (a .ended z, b .ended (sym e ∙ z))
 
-  pub bytes-same : x ≡ y → (x ≡ 0 → ⊥) → sameBytes (nameAt l i) (nameAt l j) ≡ sameBytes (nameAt l (i + 1)) (nameAt l (j + 1))
+  pub bytes-same : x ≡ y → (x ≡ 0 → ⊥) → sameBytes (pieceName l i) (pieceName l j) ≡ sameBytes (pieceName l (i + 1)) (pieceName l (j + 1))
   unfolding sameBytes
   bytes-same e z = rw (a .goes (omega arith), b .goes (omega arith), eq-eqb x y e)
 
-  pub bytes-differ : (x ≡ y → ⊥) → sameBytes (nameAt l i) (nameAt l j) ≡ false
+  pub bytes-differ : (x ≡ y → ⊥) → sameBytes (pieceName l i) (pieceName l j) ≡ false
   unfolding sameBytes
   bytes-differ e = split (ltb 0 x)
       (λ p. split (ltb 0 y)
@@ -58,11 +58,11 @@ module _ {l : List ℕ} {i j x y : ℕ} (a : NameByte l i x) (b : NameByte l j y
       pos (suc n) = inl (omega arith)
 
 -- the hash
-pub hash-end : {l : List ℕ} {i x : ℕ} (h : ℕ) → NameByte l i x → x ≡ 0 → hashFrom h (nameAt l i) ≡ h
+pub hash-end : {l : List ℕ} {i x : ℕ} (h : ℕ) → PieceByte l i x → x ≡ 0 → hashFrom h (pieceName l i) ≡ h
 unfolding hashFrom
 hash-end h a z = rw (a .ended z)
 
-pub hash-step : {l : List ℕ} {i x : ℕ} (h : ℕ) → NameByte l i x → (x ≡ 0 → ⊥) → hashFrom h (nameAt l i) ≡ hashFrom (mixed h x) (nameAt l (i + 1))
+pub hash-step : {l : List ℕ} {i x : ℕ} (h : ℕ) → PieceByte l i x → (x ≡ 0 → ⊥) → hashFrom h (pieceName l i) ≡ hashFrom (mixed h x) (pieceName l (i + 1))
 unfolding hashFrom
 hash-step h a z = rw (a .goes (omega arith))
 

@@ -4,7 +4,7 @@ use mathlib.Core.Path.{_≡_, refl, ap, _∙_}
 use mathlib.Core.List.{List, [], _∷_}
 use native.Mathlib.Omega.{arith}
 use lib.ListN.{length, getD, set}
-use Rattle.repeats.specs.Table.{placed}
+use Rattle.repeats.specs.Helpers.Table.{placed}
 
 pub placed-length : (from : ℕ) (ds : List ℕ) → length (placed from ds) ≡ length ds
 unfolding placed

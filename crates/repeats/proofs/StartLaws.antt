@@ -7,10 +7,10 @@ use native.Mathlib.Omega.{arith}
 use lib.Dec.{ltb}
 use lib.ListN.{length, getD, drop}
 use borrow.Author.Tests.{ltb-true, ltb-false}
-use Rattle.lists.specs.Find.{untilEither}
+use Rattle.lists.specs.Helpers.{untilEither}
 use Rattle.lists.proofs.Tests.{split}
 use Rattle.lists.proofs.FindLaws.{either-ahead, either-inside, either-there, either-before}
-use Rattle.repeats.specs.Places.{Start, Next, Best}
+use Rattle.repeats.specs.Helpers.Places.{Start, Next, Best}
 
 -- the next start, by the first 0x00 from `at` on
 module _ {l : List ℕ} {at z : ℕ} (e : z ≡ at + untilEither 0 0 (drop at l)) (g : at < length l) where

@@ -1,5 +1,5 @@
 -- Laws of the table: the walk in its trees, and an entry more.
-use Prim.Native.Nat.{ℕ, zero, suc, _+_, _-_, _*_, _/_, _%_, _<_, _≤_}
+use Prim.Native.Nat.{ℕ, suc, _+_, _-_, _*_, _/_, _%_, _<_, _≤_}
 use mathlib.Core.Path.{_≡_, refl, sym, ap, _∙_, subst}
 use mathlib.Core.Bool.{true, false}
 use mathlib.Core.List.{List}
@@ -11,8 +11,8 @@ use lib.Seq.{getD-set-same, getD-set-other}
 use borrow.Author.Tests.{eqb-true, eqb-false}
 use Rattle.lists.proofs.Tests.{split}
 use Rattle.lists.proofs.ListLaws.{zeros-at}
-use Rattle.repeats.specs.Pieces.{nameAt, starts}
-use Rattle.repeats.specs.Table.{hashOf, rootOf, wayOf, Comes, here, there, Found, Table, Free, Walked}
+use Rattle.repeats.specs.Pieces.{pieceName, starts}
+use Rattle.repeats.specs.Helpers.Table.{hashOf, rootOf, wayOf, Comes, here, there, Found, Table, Free, Walked}
 
 pub split-eq : {A : Type 0} (a b : ℕ) → (a ≡ b → A) → ((a ≡ b → ⊥) → A) → A
 split-eq a b f g = split (eqb a b) (λ t. f (eqb-true a b t)) (λ t. g (eqb-false a b t))
@@ -49,11 +49,11 @@ found-past {links} {n} {at} {way} {i} {o} f e d = go (f .comes) e (f .is)
 -- where the walk to the name at `at` stands: the entries with the name are ahead, and what it comes to from here it comes to from its tree
 pub record Walk (l links starts : List ℕ) (k at h link way : ℕ) : Type 0 where
   pub low : link < length starts + 2 * k
-  pub ahead : (i : ℕ) → i < k → nameAt l (getD starts i 0) ≡ nameAt l at → Found links (length starts) link way i
+  pub ahead : (i : ℕ) → i < k → pieceName l (getD starts i 0) ≡ pieceName l at → Found links (length starts) link way i
   pub back : (s : ℕ) → Comes links (length starts) s link way → Comes links (length starts) s (rootOf (length starts) h) (wayOf h)
 
 module _ {l links starts : List ℕ} {k : ℕ} (t : Table l links starts k) where
-  pub walk-none : (at h n : ℕ) → n ≡ length starts → h ≡ hashOf (nameAt l at) → Walk l links starts k at h (rootOf n h) (wayOf h)
+  pub walk-none : (at h n : ℕ) → n ≡ length starts → h ≡ hashOf (pieceName l at) → Walk l links starts k at h (rootOf n h) (wayOf h)
   walk-none at h n q e = subst (λ (m : ℕ). Walk l links starts k at h (rootOf m h) (wayOf h)) (sym q) (record {
     low = omega (arith, root-low (length starts) h (t .some));
     ahead = λ i b q. subst (λ (x : ℕ). Found links (length starts) (rootOf (length starts) x) (wayOf x) i) (ap hashOf q ∙ sym e) (t .cover i b);
@@ -61,24 +61,24 @@ module _ {l links starts : List ℕ} {k : ℕ} (t : Table l links starts k) wher
   })
 
   module _ {at h link way : ℕ} (w : Walk l links starts k at h link way) where
-    pub walk-end : h ≡ hashOf (nameAt l at) → getD links link 0 ≡ 0 → Walked l links starts k at link false
+    pub walk-end : h ≡ hashOf (pieceName l at) → getD links link 0 ≡ 0 → Walked l links starts k at link false
     walk-end e z = record {
       found = λ e. let z : _≡_ {A = ℕ} 0 1 = cc in absurd (omega arith);
       missed = λ _ i b q. found-none (w .ahead i b q) z;
       free = λ _. subst (λ (x : ℕ). Free links (length starts) k x link) e (record { comes = w .back link here; empty = z; low = w .low });
     }
 
-    pub walk-hit : {i : ℕ} → getD links link 0 ≡ suc i → nameAt l (getD starts i 0) ≡ nameAt l at → Walked l links starts k at link true
+    pub walk-hit : {i : ℕ} → getD links link 0 ≡ suc i → pieceName l (getD starts i 0) ≡ pieceName l at → Walked l links starts k at link true
     walk-hit {i} v e = record {
       found = λ _. record { entry = i; below = t .below link i v; same = e };
       missed = λ e. let z : _≡_ {A = ℕ} 0 1 = cc in absurd (omega arith);
       free = λ e. let z : _≡_ {A = ℕ} 0 1 = cc in absurd (omega arith);
     }
 
-    pub walk-next : {i : ℕ} (n : ℕ) → n ≡ length starts → getD links link 0 ≡ suc i → (nameAt l (getD starts i 0) ≡ nameAt l at → ⊥) → Walk l links starts k at h (n + 2 * i + way % 2) (way / 2)
+    pub walk-next : {i : ℕ} (n : ℕ) → n ≡ length starts → getD links link 0 ≡ suc i → (pieceName l (getD starts i 0) ≡ pieceName l at → ⊥) → Walk l links starts k at h (n + 2 * i + way % 2) (way / 2)
     walk-next {i} n q v d = subst (λ (m : ℕ). Walk l links starts k at h (m + 2 * i + way % 2) (way / 2)) (sym q) (record {
       low = omega (arith, t .below link i v);
-      ahead = λ j b q. found-past (w .ahead j b q) v (λ s. d (ap (λ (m : ℕ). nameAt l (getD starts m 0)) (sym s) ∙ q));
+      ahead = λ j b q. found-past (w .ahead j b q) v (λ s. d (ap (λ (m : ℕ). pieceName l (getD starts m 0)) (sym s) ∙ q));
       back = λ s c. w .back s (there v c);
     })
 
@@ -94,7 +94,7 @@ found-set : {links : List ℕ} {n at way i : ℕ} (e v : ℕ) → getD links e 0
 found-set {links} e v z f = record { link = f .link; comes = comes-set e v z (f .comes); is = other links e (f .link) v z (f .is) }
 
 -- an entry more
-module _ {l links starts : List ℕ} {k link : ℕ} (at : ℕ) (t : Table l links starts k) (r : k < length starts) (o : at < length l) (f : Free links (length starts) k (hashOf (nameAt l at)) link) where
+module _ {l links starts : List ℕ} {k link : ℕ} (at : ℕ) (t : Table l links starts k) (r : k < length starts) (o : at < length l) (f : Free links (length starts) k (hashOf (pieceName l at)) link) where
   pub link-in : link < length links
   link-in = omega (arith, f .low, t .long)
 
@@ -105,7 +105,7 @@ module _ {l links starts : List ℕ} {k link : ℕ} (at : ℕ) (t : Table l link
   new-start i q = ap (λ (m : ℕ). getD (set starts k at) m 0) q ∙ getD-set-same starts k at 0 r
 
   covered : (i : ℕ) → i < k + 1
-      → Found (set links link (k + 1)) (length starts) (rootOf (length starts) (hashOf (nameAt l (getD (set starts k at) i 0)))) (wayOf (hashOf (nameAt l (getD (set starts k at) i 0)))) i
+      → Found (set links link (k + 1)) (length starts) (rootOf (length starts) (hashOf (pieceName l (getD (set starts k at) i 0)))) (wayOf (hashOf (pieceName l (getD (set starts k at) i 0)))) i
   covered i h = split-eq i k
       (λ q. rw (new-start i q) (record { link = link; comes = comes-set link (k + 1) (f .empty) (f .comes); is = omega (arith, new-link link refl) }))
       (λ q. rw (getD-set-other starts k i at 0 q) (found-set link (k + 1) (f .empty) (t .cover i (omega arith))))

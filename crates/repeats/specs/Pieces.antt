@@ -23,8 +23,8 @@ nameOf [] = []
 nameOf (b ∷ bs) = elim (endsName b) [ true ↦ [] | false ↦ b ∷ nameOf bs ]
 
 -- the name of the piece that begins at an offset
-unfoldable pub nameAt : List ℕ → ℕ → List ℕ
-nameAt l at = nameOf (drop at l)
+unfoldable pub pieceName : List ℕ → ℕ → List ℕ
+pieceName l at = nameOf (drop at l)
 
 -- the offsets at which a piece begins; fresh: one begins at the first of these bytes, whose offset is at
 unfoldable pub startsFrom : Bool → ℕ → List ℕ → List ℕ
@@ -39,7 +39,7 @@ starts l = startsFrom true 0 l
 -- the first of these pieces whose name stood before; seen: the names before them
 unfoldable pub repeatIn : List ℕ → List (List ℕ) → List ℕ → Repeat
 repeatIn l seen [] = None
-repeatIn l seen (s ∷ ss) = elim (stands (nameAt l s) seen) [ true ↦ At s | false ↦ repeatIn l (nameAt l s ∷ seen) ss ]
+repeatIn l seen (s ∷ ss) = elim (stands (pieceName l s) seen) [ true ↦ At s | false ↦ repeatIn l (pieceName l s ∷ seen) ss ]
 
 -- the first piece whose name stood before
 unfoldable pub firstRepeat : List ℕ → Repeat

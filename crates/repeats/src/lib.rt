@@ -4,9 +4,9 @@ ghost use mathlib.Core.Bool.{false};
 ghost use Prim.Native.Nat.{_+_, _<_};
 ghost use lib.ListN.{length, set};
 ghost use Rattle.lists.specs.Bytes.{sameBytes};
-ghost use Rattle.repeats.specs.Pieces.{nameAt, firstRepeat};
-ghost use Rattle.repeats.specs.Places.{Start, NameByte, Next, Distinct, Best};
-ghost use Rattle.repeats.specs.Table.{hashOf, placed, Table, Walked, Block, Gathered, Turn};
+ghost use Rattle.repeats.specs.Pieces.{pieceName, firstRepeat};
+ghost use Rattle.repeats.specs.Helpers.Places.{Start, PieceByte, Next, Distinct, Best};
+ghost use Rattle.repeats.specs.Helpers.Table.{hashOf, placed, Table, Walked, Block, Gathered, Turn};
 
 // The first piece whose name stood before, if there is one.
 pub enum Repeat {
@@ -16,7 +16,7 @@ pub enum Repeat {
 }
 
 // Whether the walk to a name finds it, and else the empty link where it ends.
-struct Place {
+struct WalkEnd {
     link: usize,
     hit: bool,
 }
@@ -57,7 +57,7 @@ fn byte(x: u8) -> usize
 
 // The byte at `at`, or 0 where the name has ended.
 fn name_byte(pairs: &[u8], at: usize) -> u8
-    ensures { λ r. ⌜ NameByte (now (pairs .entry)) at r ⌝ }
+    ensures { λ r. ⌜ PieceByte (now (pairs .entry)) at r ⌝ }
 {
     if pairs.len() <= at {
         return 0;
@@ -71,7 +71,7 @@ fn name_byte(pairs: &[u8], at: usize) -> u8
 
 // The hash of the name at `at`: multiply with carry on its two halves, and each byte, spread over them, by exclusive or.
 fn name_hash(pairs: &[u8], at: usize) -> usize
-    ensures { λ r. ⌜ r ≡ hashOf (nameAt (now (pairs .entry)) at) ⌝ }
+    ensures { λ r. ⌜ r ≡ hashOf (pieceName (now (pairs .entry)) at) ⌝ }
 {
     let mut i = at;
     let mut h = 11400714819323198485;
@@ -100,7 +100,7 @@ fn next_start(pairs: &[u8], at: usize) -> usize
 
 // Whether the names at two starts are the same.
 fn same_name(pairs: &[u8], p: usize, q: usize) -> bool
-    ensures { λ r. ⌜ r ≡ sameBytes (nameAt (now (pairs .entry)) p) (nameAt (now (pairs .entry)) q) ⌝ }
+    ensures { λ r. ⌜ r ≡ sameBytes (pieceName (now (pairs .entry)) p) (pieceName (now (pairs .entry)) q) ⌝ }
 {
     let mut i = p;
     let mut j = q;
@@ -127,8 +127,8 @@ fn walk(
     from: usize,
     at: usize,
     h: usize,
-) -> Place
-    requires { ⌜ Table (now pairs) (now links) (placed from (now starts)) count × (h ≡ hashOf (nameAt (now pairs) at)) ⌝ }
+) -> WalkEnd
+    requires { ⌜ Table (now pairs) (now links) (placed from (now starts)) count × (h ≡ hashOf (pieceName (now pairs) at)) ⌝ }
     ensures { λ r. ⌜ Walked (now (pairs .entry)) (now (links .entry)) (placed from (now (starts .entry))) count at (r .link) (r .hit) ⌝ }
 {
     let mut link = h % 65536 * starts.len() / 65536;
@@ -146,7 +146,7 @@ fn walk(
         link = starts.len() + 2 * i + way % 2;
         way /= 2;
     };
-    Place {
+    WalkEnd {
         link: link,
         hit: hit,
     }

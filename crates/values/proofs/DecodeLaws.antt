@@ -9,10 +9,11 @@ use lib.ListN.{length, getD, take, drop, replicate, length-append, length-replic
 use lib.Dec.{ltb, eqb}
 use borrow.Author.Tests.{eqb-true, eqb-false, eq-eqb, ne-eqb, ltb-true, ltb-false, lt-ltb, le-ltb}
 use Rattle.lists.specs.Bytes.{Every, AllBytes}
-use Rattle.lists.specs.Find.{either, untilEither}
+use Rattle.lists.specs.Helpers.{either, untilEither}
 use Rattle.lists.proofs.Tests.{split, clash, and-true}
 use Rattle.lists.proofs.FindLaws.{either-not, plain-cut, plain-bytes, plain-length}
-use Rattle.values.specs.Value.{runByte, run, decodeFrom, decode, spelledFrom, spelled, part}
+use Rattle.values.specs.Value.{runByte, run, decodeFrom, decode, spelledFrom, spelled}
+use Rattle.values.specs.Helpers.{part}
 use Rattle.values.specs.Rules.{Spells, nothing, itself, zeros, ones}
 use Rattle.lists.proofs.ListLaws.{drop-next, every-append, every-replicate}
 

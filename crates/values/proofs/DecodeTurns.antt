@@ -5,11 +5,12 @@ use mathlib.Core.List.{List}
 use mathlib.Core.Logic.{_≢_}
 use native.Mathlib.Omega.{arith}
 use lib.ListN.{length, getD, set, drop, replicate, length-append}
-use Rattle.lists.specs.Find.{untilEither}
+use Rattle.lists.specs.Helpers.{untilEither}
 use Rattle.lists.specs.Pasted.{pasted}
 use Rattle.lists.proofs.Grown.{Grown, grown-none, grown-as, grown-same, grown-piece, grown-byte, grown-all}
 use Rattle.values.specs.declared.Written.the-variants.{Length, NoRoom}
-use Rattle.values.specs.Value.{runByte, run, decode, writtenOf, part, Passed}
+use Rattle.values.specs.Value.{runByte, run, decode, writtenOf}
+use Rattle.values.specs.Helpers.{part, Passed}
 use Rattle.lists.proofs.Grown.{grown-left}
 use Rattle.values.proofs.DecodeLaws.{length-run, decode-end, decode-one, decode-two, decode-stop, decode-part, length-one, length-two, length-part, length-piece}
 use Rattle.values.proofs.WrittenLaws.{written-not, count-fits}

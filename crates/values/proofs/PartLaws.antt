@@ -6,7 +6,7 @@ use native.Mathlib.Omega.{arith}
 use lib.ListN.{length, getD, take, drop}
 use lib.Seq.{take-add, drop-drop}
 use Rattle.lists.proofs.ListLaws.{drop-next}
-use Rattle.values.specs.Value.{part}
+use Rattle.values.specs.Helpers.{part}
 
 pub part-next : (l : List ℕ) (i e : ℕ) → i < e → e ≤ length l → part l i e ≡ getD l i 0 ∷ part l (i + 1) e
 unfolding part

@@ -6,7 +6,7 @@ use native.Mathlib.Omega.{arith}
 use lib.Dec.{ltb}
 use borrow.Author.Tests.{lt-ltb, le-ltb, ltb-true, ltb-false}
 use Rattle.lists.proofs.Tests.{split}
-use Rattle.values.specs.Stops.{firstStop, nextStop}
+use Rattle.values.specs.Helpers.{firstStop, nextStop}
 
 pub first-few : (len : ℕ) → len < 16 → len ≡ firstStop len
 unfolding firstStop

@@ -12,7 +12,8 @@ use Rattle.lists.specs.Pasted.{pasted, writtenIn}
 use Rattle.lists.proofs.PastedLaws.{part-copied}
 use Rattle.lists.proofs.Tests.{split, clash}
 use Rattle.values.specs.declared.Written.the-variants.{Length, NoRoom}
-use Rattle.values.specs.Value.{writtenOf, part}
+use Rattle.values.specs.Value.{writtenOf}
+use Rattle.values.specs.Helpers.{part}
 
 module _ (l : List ℕ) (room : ℕ) where
   pub written-fits : length l ≤ room → writtenOf l room ≡ Length (length l)

@@ -1,3 +1,3 @@
 pub mod Value
 pub mod Rules
-pub mod Stops
+pub mod Helpers

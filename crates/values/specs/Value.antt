@@ -1,11 +1,9 @@
 -- How a value is stored: 0x01 to 0xFE stand for themselves, and 0xFF begins an escape, which stands for a run of 0x00 or of 0xFF.
-use Prim.Native.Nat.{ℕ, zero, suc, _+_, _-_, _/_, _%_}
+use Prim.Native.Nat.{ℕ, zero, suc, _+_, _/_, _%_}
 use mathlib.Core.Bool.{Bool, true, false, _&&_, _||_, not, cond}
-use mathlib.Core.Path.{_≡_}
 use mathlib.Core.List.{List, [], _∷_, _++_}
-use lib.ListN.{length, take, drop, replicate}
+use lib.ListN.{length, replicate}
 use lib.Dec.{leb, ltb, eqb}
-use Rattle.lists.specs.Pasted.{pasted}
 use Rattle.values.specs.declared.Written.{Written}
 use Rattle.values.specs.declared.Written.the-variants.{Length, NoRoom}
 
@@ -81,34 +79,3 @@ encode xs = encodeFrom 0x00 0 xs
 -- the answer: the length of the bytes, if there is room for them
 unfoldable pub writtenOf : List ℕ → ℕ → Written
 writtenOf l room = cond (leb (length l) room) (Length (length l)) NoRoom
-
--- ---- a part of a list
-
--- the bytes from `from` up to `to`
-unfoldable pub part : List ℕ → ℕ → ℕ → List ℕ
-part l from to = take (to - from) (drop from l)
-
--- what the stored bytes s stand for from the offset i up to j is written to the buffer d from o up to p, and gives b
-pub record Passed (s d : List ℕ) (i o j p : ℕ) (b : List ℕ) : Type 0 where
-  pub piece : List ℕ
-  pub told : decode (drop i s) ≡ piece ++ decode (drop j s)
-  pub end : o + length piece ≡ p
-  pub written : b ≡ pasted d o piece
-
--- ---- a stored value made canonical in its place
-
--- at ≤ from ≤ to ≤ length, and the bytes from `from` up to `to` stand for a value
-unfoldable pub recodable : List ℕ → ℕ → ℕ → ℕ → Bool
-recodable area from to at = leb at from && leb from to && leb to (length area) && spelled (part area from to)
-
--- the canonical form of the value that they stand for
-unfoldable pub recoded : List ℕ → ℕ → ℕ → List ℕ
-recoded area from to = encode (decode (part area from to))
-
--- the answer: its length
-unfoldable pub recodedOf : List ℕ → ℕ → ℕ → ℕ → Written
-recodedOf area from to at = cond (recodable area from to at) (Length (length (recoded area from to))) NoRoom
-
--- the area afterwards: the canonical form is written at `at`
-unfoldable pub recodedIn : List ℕ → ℕ → ℕ → ℕ → List ℕ
-recodedIn area from to at = cond (recodable area from to at) (pasted area at (recoded area from to)) area

@@ -1,7 +1,7 @@
 -- What the code's answers tell of the calls: a name refused, a fault of the area, its pairs, and the value that is read.
 use Prim.Native.Nat.{ℕ, zero, suc, _+_, _<_, _≤_}
 use mathlib.Core.Path.{_≡_, refl, sym, ap, _∙_}
-use mathlib.Core.Bool.{true, false, cond}
+use mathlib.Core.Bool.{cond}
 use mathlib.Core.List.{List, []}
 use native.Mathlib.Omega.{arith}
 use lib.ListN.{length, length-append}
@@ -17,7 +17,8 @@ use Rattle.names.specs.declared.NameCheck.the-variants.{Good, Wrong}
 use Rattle.names.specs.Name.{nameCheck}
 use Rattle.names.proofs.NameLaws.{split-check}
 use Rattle.values.specs.declared.Written.the-variants.{Length, NoRoom}
-use Rattle.values.specs.Value.{decode, part, writtenOf}
+use Rattle.values.specs.Value.{decode, writtenOf}
+use Rattle.values.specs.Helpers.{part}
 use Rattle.values.proofs.WrittenLaws.{length-told, fits-told, no-room-told, pasted-in, kept-in}
 use Rattle.pairs.specs.declared.Scanned.the-variants.{Pairs, Refused}
 use Rattle.pairs.specs.declared.Place.{Place}
@@ -26,8 +27,8 @@ use Rattle.pairs.specs.Scan.{Stand, pair, finish, cut, wrongName, wrongEscape, 
 use Rattle.pairs.specs.Area.{Pair, pairsBytes, Parse, parsed, faulty, parse}
 use Rattle.variables.specs.Edits.{areaBytes, setPair, Lookup, found, missing, lookup}
 use Rattle.variables.specs.Calls.{Action, readInto, Call, named, set, count, read, callCheck, Reply, done, refused, Outcome, refuse, edited, setIn, readBy, callPairs, callBy, callArea}
-use Rattle.pairs.specs.Places.{scannedOf, onFind, findFrom, findAt}
-use Rattle.variables.specs.Places.{namedScan, Sought, valueAt, pairRead}
+use Rattle.pairs.specs.Helpers.{scannedOf, onFind, findFrom, findAt}
+use Rattle.variables.specs.Helpers.{namedScan, Sought, valueAt, pairRead}
 use Rattle.pairs.proofs.PairPlaces.{pair-here}
 use Rattle.variables.proofs.CallLaws.{check-named, check-count, call-misnamed, call-named, call-faulty, call-parsed, count-done}
 use Rattle.variables.proofs.FoundLaws.{parsed-ended, FoundAt, find-found, find-missing, lookup-split, found-stored}

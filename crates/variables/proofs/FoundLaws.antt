@@ -11,13 +11,14 @@ use Rattle.lists.proofs.ByteLaws.{same-refl, same-true}
 use Rattle.lists.proofs.Tests.{split, clash}
 use Rattle.errors.specs.declared.AreaFault.the-variants.{Repeated}
 use Rattle.repeats.specs.Pieces.{stands}
-use Rattle.values.specs.Value.{decode, part}
+use Rattle.values.specs.Value.{decode}
+use Rattle.values.specs.Helpers.{part}
 use Rattle.pairs.specs.declared.Place.{Place}
 use Rattle.pairs.specs.declared.Place.the-variants.{At, None}
 use Rattle.pairs.specs.Scan.{Stand, pair, finish, cut, wrongName, wrongEscape, standAt}
 use Rattle.pairs.specs.Area.{Pair, pairOf, pairBytes, pairsBytes, Parse, parsed, faulty, firstPair, onStand, parseFrom, parse}
 use Rattle.variables.specs.Edits.{canonicalPair, setPair, removePair, found, missing, lookup}
-use Rattle.pairs.specs.Places.{findFrom, findAt}
+use Rattle.pairs.specs.Helpers.{findFrom, findAt}
 use Rattle.pairs.proofs.PairPlaces.{pair-here}
 use Rattle.pairs.proofs.PairRuns.{PairRun, none, more, pair-bytes, run-bytes}
 use Rattle.pairs.proofs.ParseLaws.{pairs-append, length-pair}

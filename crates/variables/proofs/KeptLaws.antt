@@ -1,11 +1,11 @@
 -- What the calls leave of an area: a read and a count all of it, an edit its length, and a second normalizing nothing new.
-use Prim.Native.Nat.{ℕ, _+_, _≤_}
+use Prim.Native.Nat.{ℕ}
 use mathlib.Core.Path.{_≡_, refl, sym, ap, _∙_}
 use mathlib.Core.List.{List, []}
 use native.Mathlib.Omega.{arith}
 use lib.ListN.{length}
 use Rattle.errors.specs.declared.AreaFault.{AreaFault}
-use Rattle.pairs.specs.Area.{Pair, pairsBytes, parsed, faulty, parse}
+use Rattle.pairs.specs.Area.{Pair, parsed, faulty, parse}
 use Rattle.pairs.proofs.ParseLaws.{Good, area-read, read-room}
 use Rattle.variables.specs.Edits.{areaBytes, removePair, normalizePairs}
 use Rattle.variables.specs.Calls.{normalize, read, count, Outcome, callArea}

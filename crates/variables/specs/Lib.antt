@@ -1,5 +1,5 @@
 pub mod Edits
 pub mod Calls
 pub mod Rules
-pub mod Places
 pub mod Answers
+pub mod Helpers

@@ -5,9 +5,10 @@ use pairs::Place;
 use pairs::Scanned;
 use values::Written;
 ghost use mathlib.Core.Path.{_≡_};
-ghost use Rattle.variables.specs.Places.{namedScan, Sought, pairRead, countReply, readReply};
+ghost use Rattle.variables.specs.Helpers.{namedScan, Sought, pairRead};
+ghost use Rattle.variables.specs.Answers.{countReply, readReply};
 ghost use Rattle.variables.specs.Calls as Calls;
-ghost use Rattle.variables.specs.Answers.{doneAnswer, refusedAnswer, countedAnswer, lengthAnswer, editedAnswer};
+ghost use Rattle.variables.specs.Answers.{doneAnswer, refusedAnswer, countedAnswer, fetchedAnswer, editedAnswer};
 
 // The caller's view of an answer to a call on variables: code 0 and the length or count, or the error's code and offset.
 pub struct CallAnswer {
@@ -75,18 +76,18 @@ impl Counted {
 }
 
 // The length of the value that was read, or why there is none.
-pub enum ReadAnswer {
+pub enum Fetched {
     Length(usize),
     Refused(Error),
 }
 
-impl ReadAnswer {
+impl Fetched {
     pub fn answer(self) -> CallAnswer
-        ensures { λ r. ⌜ r ≡ lengthAnswer self ⌝ }
+        ensures { λ r. ⌜ r ≡ fetchedAnswer self ⌝ }
     {
         match self {
-            ReadAnswer::Length(n) => CallAnswer::done(n),
-            ReadAnswer::Refused(e) => CallAnswer::refused(e),
+            Fetched::Length(n) => CallAnswer::done(n),
+            Fetched::Refused(e) => CallAnswer::refused(e),
         }
     }
 }
@@ -102,13 +103,13 @@ pub fn scan_named(area: &[u8], name: &[u8]) -> Scanned
 }
 
 // Decodes the value of the pair at a place into the buffer.
-fn read_pair(area: &[u8], place: Place, buffer: &mut [u8]) -> ReadAnswer
+fn read_pair(area: &[u8], place: Place, buffer: &mut [u8]) -> Fetched
     requires { ⌜ Sought (now area) place ⌝ }
     ensures { λ r. ⌜ readReply r ≡ pairRead place (now (buffer .entry)) (now (area .entry)) .reply ⌝ }
     ensures { λ _. ⌜ now (buffer .exit) ≡ pairRead place (now (buffer .entry)) (now (area .entry)) .buffer ⌝ }
 {
     match place {
-        Place::None => ReadAnswer::Refused(Error::NoVariable),
+        Place::None => Fetched::Refused(Error::NoVariable),
         Place::At {
             start: _,
             equals,
@@ -116,8 +117,8 @@ fn read_pair(area: &[u8], place: Place, buffer: &mut [u8]) -> ReadAnswer
         } => {
             let from = equals + 1;
             match values::decode(&area[from..end], buffer) {
-                Written::Length(n) => ReadAnswer::Length(n),
-                Written::NoRoom => ReadAnswer::Refused(Error::ShortBuffer),
+                Written::Length(n) => Fetched::Length(n),
+                Written::NoRoom => Fetched::Refused(Error::ShortBuffer),
             }
         }
     }
@@ -138,12 +139,12 @@ pub fn count(area: &[u8]) -> Counted
 }
 
 // Reads a variable: its value goes to the start of the buffer, and its length is answered.
-pub fn read(area: &[u8], name: &[u8], buffer: &mut [u8]) -> ReadAnswer
+pub fn read(area: &[u8], name: &[u8], buffer: &mut [u8]) -> Fetched
     ensures { λ r. ⌜ readReply r ≡ Calls.callArea (Calls.read (now (name .entry)) (now (buffer .entry))) (now (area .entry)) .reply ⌝ }
     ensures { λ _. ⌜ now (buffer .exit) ≡ Calls.callArea (Calls.read (now (name .entry)) (now (buffer .entry))) (now (area .entry)) .buffer ⌝ }
 {
     match scan_named(area, name) {
-        Scanned::Refused(e) => ReadAnswer::Refused(e),
+        Scanned::Refused(e) => Fetched::Refused(e),
         Scanned::Pairs {
             count: _,
             used: _,

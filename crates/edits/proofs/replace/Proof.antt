@@ -8,7 +8,7 @@ use denote.Ref.{now}
 use Rattle.lists.specs.Pasted.{pasted}
 use Rattle.pairs.specs.Area.{pairBytes}
 use Rattle.variables.specs.Edits.{canonicalPair}
-use Rattle.edits.specs.Replaced.{tailShifted}
+use Rattle.edits.specs.Helpers.{tailShifted}
 use Rattle.pairs.proofs.ParseLaws.{length-pair}
 use Rattle.edits.proofs.ReplaceLaws.{no-room, has-room}
 use borrow.Author.Needs.{needs}

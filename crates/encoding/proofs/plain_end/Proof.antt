@@ -2,7 +2,7 @@
 use Prim.Native.Nat.{_+_, _-_, _≤_}
 use mathlib.Core.Path.{_≡_, refl, sym, _∙_}
 use lib.ListN.{length, drop}
-use Rattle.lists.specs.Find.{untilEither}
+use Rattle.lists.specs.Helpers.{untilEither}
 use Rattle.lists.proofs.FindLaws.{find-first, find-second, find-next}
 use borrow.Author.Needs.{needs}
 use Rattle.encoding.proofs.plain_end.Statement.{statement}

@@ -2,7 +2,7 @@
 use Prim.Native.Nat.{_+_, _-_}
 use mathlib.Core.Path.{_≡_, refl}
 use lib.ListN.{length, drop}
-use Rattle.encoding.specs.Leading.{leading}
+use Rattle.encoding.specs.Helpers.{leading}
 use Rattle.encoding.proofs.EncodeTurns.{end-next, end-found, end-last}
 use borrow.Author.Needs.{needs}
 use Rattle.encoding.proofs.run_end.Statement.{statement}

@@ -9,7 +9,7 @@ use borrow.Author.Needs.{needs}
 use Rattle.partitions.specs.declared.Partition.{Partition}
 use Rattle.listing.proofs.PieceLaws.{put-then, put-last, put-as}
 use Rattle.listing.proofs.WordLaws.{line-sum, lineWords, line-words}
-use Rattle.listing.specs.Parts.{Put}
+use Rattle.listing.specs.Helpers.{Put}
 use Rattle.listing.specs.Text.{decimal, hexByte, shownName, line}
 use Rattle.listing.proofs.put_line.Statement.{statement}
 use Rattle.listing.proofs.put_line.Tie as tie

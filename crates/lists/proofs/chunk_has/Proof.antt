@@ -4,7 +4,7 @@ use mathlib.Core.Path.{_≡_}
 use lib.Dec.{ltb}
 use lib.ListN.{drop}
 use borrow.Author.Needs.{needs}
-use Rattle.lists.specs.Find.{untilEither}
+use Rattle.lists.specs.Helpers.{untilEither}
 use Rattle.lists.proofs.FindLaws.{chunk-none, chunk-turn, chunk-end}
 use Rattle.lists.proofs.chunk_has.Statement.{statement}
 use Rattle.lists.proofs.chunk_has.Tie as tie

@@ -1,5 +1,5 @@
 -- `lists::chunks_down` meets its contract. The invariant: the first k bytes are moved.
-use Prim.Native.Nat.{_≤_, _<_, _-_}
+use Prim.Native.Nat.{_≤_, _-_}
 use mathlib.Core.Path.{_≡_, refl, _∙_}
 use lib.ListN.{length, take, drop}
 use Rattle.lists.specs.Pasted.{pasted}

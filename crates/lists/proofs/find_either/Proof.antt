@@ -3,7 +3,7 @@ use Prim.Native.Nat.{_+_, _-_}
 use mathlib.Core.Path.{_≡_}
 use lib.ListN.{length, drop}
 use borrow.Author.Needs.{needs}
-use Rattle.lists.specs.Find.{untilEither}
+use Rattle.lists.specs.Helpers.{untilEither}
 use Rattle.lists.proofs.FindLaws.{find-first, find-second, find-next, find-last}
 use Rattle.lists.proofs.find_either.Statement.{statement}
 use Rattle.lists.proofs.find_either.Tie as tie

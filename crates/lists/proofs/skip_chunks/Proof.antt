@@ -3,7 +3,7 @@ use Prim.Native.Nat.{_+_, _-_}
 use mathlib.Core.Path.{_≡_, refl, sym, _∙_}
 use lib.ListN.{length, drop}
 use borrow.Author.Needs.{needs}
-use Rattle.lists.specs.Find.{untilEither}
+use Rattle.lists.specs.Helpers.{untilEither}
 use Rattle.lists.proofs.FindLaws.{chunk-skipped}
 use Rattle.lists.proofs.skip_chunks.Statement.{statement}
 use Rattle.lists.proofs.skip_chunks.Tie as tie

@@ -7,7 +7,7 @@ use Rattle.nvram_c.proofs.nvram_read.Tie as tie
 use Rattle.nvram_c.proofs.nvram_read.Reads as reads
 use Rattle.nvram_c.proofs.nvram_read.Lts as lts
 use Rattle.nvram.proofs.read.Reads as read-reads
-use Rattle.variables.proofs.ReadAnswer.answer.Reads as answer-reads
+use Rattle.variables.proofs.Fetched.answer.Reads as answer-reads
 
 read-requires : tie.Need-read-requires
 read-requires c κs = search needs

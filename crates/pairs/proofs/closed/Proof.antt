@@ -1,7 +1,7 @@
 -- `pairs::closed` meets its contract, case by case.
 use mathlib.Core.Path.{sym, ap, _∙_}
 use Rattle.pairs.specs.declared.PairAt.{PairAt}
-use Rattle.pairs.specs.Places.{closedOf}
+use Rattle.pairs.specs.Helpers.{closedOf}
 use borrow.Author.Needs.{needs}
 use Rattle.pairs.proofs.closed.Statement.{statement}
 use Rattle.pairs.proofs.closed.Tie as tie

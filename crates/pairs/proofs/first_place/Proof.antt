@@ -1,7 +1,7 @@
 -- `pairs::first_place` meets its contract, case by case.
 use mathlib.Core.Path.{sym, ap}
 use Rattle.pairs.specs.declared.Place.{Place}
-use Rattle.pairs.specs.Places.{firstPlace}
+use Rattle.pairs.specs.Helpers.{firstPlace}
 use borrow.Author.Needs.{needs}
 use Rattle.pairs.proofs.first_place.Statement.{statement}
 use Rattle.pairs.proofs.first_place.Tie as tie

@@ -2,7 +2,7 @@
 use mathlib.Core.Path.{sym, ap, _∙_}
 use lib.Seq.{length-take-le}
 use Rattle.repeats.specs.declared.Repeat.{Repeat}
-use Rattle.pairs.specs.Places.{orRepeat}
+use Rattle.pairs.specs.Helpers.{orRepeat}
 use borrow.Author.Needs.{needs}
 use Rattle.pairs.proofs.or_repeat.Statement.{statement}
 use Rattle.pairs.proofs.or_repeat.Tie as tie

@@ -7,7 +7,7 @@ use lib.ListN.{drop}
 use Rattle.pairs.specs.declared.ScanEnd.{ScanEnd}
 use Rattle.pairs.specs.declared.ScanEnd.the-variants.{At, Wrong, Cut}
 use Rattle.pairs.specs.Scan.{scanValue, standAt}
-use Rattle.pairs.specs.Places.{endOf, placeOf}
+use Rattle.pairs.specs.Helpers.{endOf, placeOf}
 use Rattle.pairs.proofs.PairPlaces.{NameEnd, name-end, byValue, stand-past, stand-end, stand-cut, stand-wrong, stand-value}
 use borrow.Author.Needs.{needs}
 use Rattle.pairs.proofs.pair_at.Statement.{statement}

@@ -2,7 +2,7 @@
 use Prim.Native.Nat.{_-_, _<_}
 use native.Mathlib.Omega.{arith}
 use lib.ListN.{length}
-use Rattle.repeats.specs.Places.{Start, Distinct, Best}
+use Rattle.repeats.specs.Helpers.Places.{Start, Distinct, Best}
 use Rattle.repeats.proofs.FirstLaws.{first-at, first-none, none-yet, end-best, start-zero}
 use Rattle.repeats.proofs.first_repeat.Statement.{statement}
 use Rattle.repeats.proofs.first_repeat.Tie as tie

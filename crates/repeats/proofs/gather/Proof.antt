@@ -5,8 +5,8 @@ use native.Mathlib.Omega.{arith}
 use lib.ListN.{length, length-set}
 use borrow.Author.Needs.{needs}
 use Rattle.repeats.specs.Pieces.{starts}
-use Rattle.repeats.specs.Places.{Distinct, Best}
-use Rattle.repeats.specs.Table.{placed, Walked, Block}
+use Rattle.repeats.specs.Helpers.Places.{Distinct, Best}
+use Rattle.repeats.specs.Helpers.Table.{placed, Walked, Block}
 use Rattle.repeats.proofs.StartLaws.{next-low, best-start}
 use Rattle.repeats.proofs.PlacedLaws.{placed-length, placed-more}
 use Rattle.repeats.proofs.TableLaws.{link-in}

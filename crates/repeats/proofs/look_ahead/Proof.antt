@@ -4,8 +4,8 @@ use mathlib.Core.Path.{subst}
 use native.Mathlib.Omega.{arith}
 use borrow.Author.Needs.{needs}
 use Rattle.repeats.specs.Pieces.{starts}
-use Rattle.repeats.specs.Places.{Distinct, Best}
-use Rattle.repeats.specs.Table.{placed, Walked, Block}
+use Rattle.repeats.specs.Helpers.Places.{Distinct, Best}
+use Rattle.repeats.specs.Helpers.Table.{placed, Walked, Block}
 use Rattle.repeats.proofs.StartLaws.{next-low, best-start}
 use Rattle.repeats.proofs.BlockLaws.{Scanned, scan-none, scan-more, scan-hit, scan-end}
 use Rattle.repeats.proofs.look_ahead.Statement.{statement}

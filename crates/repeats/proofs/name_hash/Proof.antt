@@ -4,14 +4,14 @@ use mathlib.Core.Path.{_≡_, refl, sym, ap, _∙_}
 use native.Mathlib.Omega.{arith}
 use lib.ListN.{length}
 use borrow.Author.Needs.{needs}
-use Rattle.repeats.specs.Pieces.{nameAt}
-use Rattle.repeats.specs.Table.{mixed, hashFrom}
+use Rattle.repeats.specs.Pieces.{pieceName}
+use Rattle.repeats.specs.Helpers.Table.{mixed, hashFrom}
 use Rattle.repeats.proofs.NameLaws.{hash-end, hash-step, hash-is, carry-fits, mixed-fits}
 use Rattle.repeats.proofs.name_hash.Statement.{statement}
 use Rattle.repeats.proofs.name_hash.Tie as tie
 
 abbrev Inv-loop : tie.InvT-loop
-Inv-loop pairs at i₀ h₀ i h = (h < 2 ^ 64) × (hashFrom 11400714819323198485 (nameAt pairs at) ≡ hashFrom h (nameAt pairs i))
+Inv-loop pairs at i₀ h₀ i h = (h < 2 ^ 64) × (hashFrom 11400714819323198485 (pieceName pairs at) ≡ hashFrom h (pieceName pairs i))
 
 abbrev μ-loop : tie.MeasureT-loop
 μ-loop pairs at i₀ h₀ i h = length pairs - i
@@ -42,7 +42,7 @@ loop-less c = omega (arith, c .before .before .name-byte .ensures .within (omega
 
 loop-again : tie.Need-loop-again Inv-loop μ-loop
 unfolding mixed
-loop-again c = let s = c .before .before .before .loop in (mixed-fits (s .h) (c .byte .result) (s .inv .0) (c .byte .ensures .1), s .inv .1 ∙ hash-step (s .h) (c .before .before .name-byte .ensures) (c .before .if1 .left) ∙ ap (λ (z : ℕ). hashFrom (mixed (s .h) z) (nameAt (c .before .before .before .before .before .args .pairs .now) (s .i + 1))) (sym (c .byte .ensures .0)))
+loop-again c = let s = c .before .before .before .loop in (mixed-fits (s .h) (c .byte .result) (s .inv .0) (c .byte .ensures .1), s .inv .1 ∙ hash-step (s .h) (c .before .before .name-byte .ensures) (c .before .if1 .left) ∙ ap (λ (z : ℕ). hashFrom (mixed (s .h) z) (pieceName (c .before .before .before .before .before .args .pairs .now) (s .i + 1))) (sym (c .byte .ensures .0)))
 
 returns : tie.Need-returns Inv-loop μ-loop
 returns c = hash-is _ _ (c .before .before .loop .inv .1 ∙ hash-end (c .before .before .loop .h) (c .before .name-byte .ensures) (c .if1 .taken))

@@ -5,13 +5,13 @@ use native.Mathlib.Omega.{arith}
 use lib.ListN.{length}
 use borrow.Author.Needs.{needs}
 use Rattle.lists.specs.Bytes.{sameBytes}
-use Rattle.repeats.specs.Pieces.{nameAt}
+use Rattle.repeats.specs.Pieces.{pieceName}
 use Rattle.repeats.proofs.NameLaws.{name-byte, bytes-end, bytes-same, bytes-differ}
 use Rattle.repeats.proofs.same_name.Statement.{statement}
 use Rattle.repeats.proofs.same_name.Tie as tie
 
 abbrev Inv-loop : tie.InvT-loop
-Inv-loop pairs p q i₀ j₀ i j = sameBytes (nameAt pairs p) (nameAt pairs q) ≡ sameBytes (nameAt pairs i) (nameAt pairs j)
+Inv-loop pairs p q i₀ j₀ i j = sameBytes (pieceName pairs p) (pieceName pairs q) ≡ sameBytes (pieceName pairs i) (pieceName pairs j)
 
 abbrev μ-loop : tie.MeasureT-loop
 μ-loop pairs p q i₀ j₀ i j = length pairs - i

@@ -1,7 +1,7 @@
 -- `repeats::turn` meets its contract: a block is gathered, and the later pieces looked up in it.
 use mathlib.Core.Path.{subst}
 use borrow.Author.Needs.{needs}
-use Rattle.repeats.specs.Table.{Gathered}
+use Rattle.repeats.specs.Helpers.Table.{Gathered}
 use Rattle.repeats.proofs.BlockLaws.{turn-hit}
 use Rattle.repeats.proofs.turn.Statement.{statement}
 use Rattle.repeats.proofs.turn.Tie as tie

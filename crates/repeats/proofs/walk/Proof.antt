@@ -5,15 +5,15 @@ use native.Mathlib.Omega.{arith}
 use lib.ListN.{length, getD}
 use borrow.Author.Needs.{needs}
 use Rattle.lists.proofs.ByteLaws.{same-true, same-not}
-use Rattle.repeats.specs.Pieces.{nameAt, starts}
-use Rattle.repeats.specs.Table.{hashOf, placed, rootOf, wayOf, Table}
+use Rattle.repeats.specs.Pieces.{pieceName, starts}
+use Rattle.repeats.specs.Helpers.Table.{hashOf, placed, rootOf, wayOf, Table}
 use Rattle.repeats.proofs.PlacedLaws.{placed-length, placed-at}
 use Rattle.repeats.proofs.TableLaws.{scaled, next-is, Walk, walk-none, walk-end, walk-hit, walk-next}
 use Rattle.repeats.proofs.walk.Statement.{statement}
 use Rattle.repeats.proofs.walk.Tie as tie
 
 abbrev Inv-loop : tie.InvT-loop
-Inv-loop pairs links starts count from at h link₀ way₀ link way = Table pairs links (placed from starts) count × (h ≡ hashOf (nameAt pairs at)) × Walk pairs links (placed from starts) count at h link way
+Inv-loop pairs links starts count from at h link₀ way₀ link way = Table pairs links (placed from starts) count × (h ≡ hashOf (pieceName pairs at)) × Walk pairs links (placed from starts) count at h link way
 
 abbrev μ-loop : tie.MeasureT-loop
 μ-loop pairs links starts count from at h link₀ way₀ link way = length links - link
@@ -94,7 +94,7 @@ loop-again c =
     let e = c .before .before .before .before in
     let l = e .before .before .before in
     let t = l .loop .inv in
-    (t .0, t .1, walk-next (t .0) (t .2) _ (sym (long l)) (next-is (e .before .wide .ensures) (e .if1 .left)) (λ q. same-not _ _ (sym (c .before .same-name .ensures) ∙ c .if2 .left) (ap (nameAt _) (sym (start (c .before .before))) ∙ q)))
+    (t .0, t .1, walk-next (t .0) (t .2) _ (sym (long l)) (next-is (e .before .wide .ensures) (e .if1 .left)) (λ q. same-not _ _ (sym (c .before .same-name .ensures) ∙ c .if2 .left) (ap (pieceName _) (sym (start (c .before .before))) ∙ q)))
 
 returns : tie.Need-returns Inv-loop μ-loop
 returns c = let t = c .before .before .before .loop .inv in walk-end (t .0) (t .2) (t .1) (sym (c .before .wide .ensures) ∙ c .if1 .taken)
@@ -103,7 +103,7 @@ returns-2 : tie.Need-returns-2 Inv-loop μ-loop
 returns-2 c =
     let e = c .before .before .before .before in
     let t = e .before .before .before .loop .inv in
-    walk-hit (t .0) (t .2) (next-is (e .before .wide .ensures) (e .if1 .left)) (ap (nameAt _) (start (c .before .before)) ∙ same-true _ _ (sym (c .before .same-name .ensures) ∙ c .if2 .taken))
+    walk-hit (t .0) (t .2) (next-is (e .before .wide .ensures) (e .if1 .left)) (ap (pieceName _) (start (c .before .before)) ∙ same-true _ _ (sym (c .before .same-name .ensures) ∙ c .if2 .taken))
 
 pub walk-spec : {M : Type 1} → statement M
 walk-spec =

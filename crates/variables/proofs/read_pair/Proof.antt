@@ -3,7 +3,7 @@ use mathlib.Core.Path.{sym, _∙_}
 use Prim.Native.Nat.{_+_, _≤_, _<_}
 use native.Mathlib.Omega.{arith}
 use lib.ListN.{length}
-use Rattle.values.specs.Value.{part}
+use Rattle.values.specs.Helpers.{part}
 use Rattle.variables.proofs.CallPlaces.{place-inside, read-missing, read-fits, read-short}
 use borrow.Author.Needs.{needs}
 use Rattle.variables.proofs.read_pair.Statement.{statement}

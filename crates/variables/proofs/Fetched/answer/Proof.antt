@@ -1,9 +1,9 @@
--- `ReadAnswer::answer` meets its contract, case by case.
+-- `Fetched::answer` meets its contract, case by case.
 use mathlib.Core.Path.{sym, ap, _∙_}
-use Rattle.variables.specs.Answers.{lengthAnswer}
+use Rattle.variables.specs.Answers.{fetchedAnswer}
 use borrow.Author.Needs.{needs}
-use Rattle.variables.proofs.ReadAnswer.answer.Statement.{statement}
-use Rattle.variables.proofs.ReadAnswer.answer.Tie as tie
+use Rattle.variables.proofs.Fetched.answer.Statement.{statement}
+use Rattle.variables.proofs.Fetched.answer.Tie as tie
 
 enum-known-self : tie.Need-enum-known-self
 enum-known-self c = search needs
@@ -18,10 +18,10 @@ refused-requires : tie.Need-refused-requires
 refused-requires c κs = search needs
 
 returns : tie.Need-returns
-returns c = c .done .ensures ∙ ap lengthAnswer (sym (c .before .before .self .given .1))
+returns c = c .done .ensures ∙ ap fetchedAnswer (sym (c .before .before .self .given .1))
 
 returns-2 : tie.Need-returns-2
-returns-2 c = c .refused .ensures ∙ ap lengthAnswer (sym (c .before .before .self2 .given .1))
+returns-2 c = c .refused .ensures ∙ ap fetchedAnswer (sym (c .before .before .self2 .given .1))
 
 pub answer-spec : {M : Type 1} → statement M
 answer-spec =

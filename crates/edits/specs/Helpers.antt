@@ -1,7 +1,7 @@
--- What the code of a set and of a removal answers and leaves, by offsets of the area.
+-- For the code of a set and of a removal: what it answers and leaves, by offsets of the area.
 use Prim.Native.Nat.{ℕ, _+_, _-_}
 use mathlib.Core.Path.{_≡_}
-use mathlib.Core.Bool.{Bool, true, false, cond}
+use mathlib.Core.Bool.{cond}
 use mathlib.Core.List.{List, _++_}
 use lib.ListN.{length, take, drop, replicate}
 use lib.Dec.{ltb}

@@ -1,4 +1,4 @@
--- What the functions behind a listing answer: a piece that is written, the size of the lines, and the lines.
+-- For the functions behind a listing: what they answer, a piece that is written, the size of the lines, and the lines.
 use Prim.Native.Nat.{ℕ, _+_, _≤_}
 use mathlib.Core.Path.{_≡_}
 use mathlib.Core.List.{List, []}

@@ -1,6 +1,6 @@
--- What the code answers, in terms of the scans, the stands and the pairs: offsets count from the area's first byte.
+-- For the code: what it answers, in terms of the scans, the stands and the pairs: offsets count from the area's first byte.
 use Prim.Native.Nat.{ℕ, zero, suc, _+_}
-use mathlib.Core.Bool.{Bool, true, false, _&&_, cond}
+use mathlib.Core.Bool.{true, false, _&&_, cond}
 use mathlib.Core.List.{List, [], _∷_}
 use lib.ListN.{length}
 use lib.Dec.{ltb, eqb}

@@ -1,10 +1,11 @@
--- What the code that makes values canonical takes and leaves, by offsets of the area.
+-- For the code that makes values canonical: what it takes and leaves, by offsets of the area.
 use Prim.Native.Nat.{ℕ, _+_, _-_, _≤_, _<_}
 use mathlib.Core.Path.{_≡_}
 use mathlib.Core.Bool.{true}
 use mathlib.Core.List.{List, [], _∷_, _++_}
 use lib.ListN.{length, take, drop}
-use Rattle.values.specs.Value.{spelled, part, recoded}
+use Rattle.values.specs.Value.{spelled}
+use Rattle.values.specs.Helpers.{part, recoded}
 use Rattle.pairs.specs.Area.{Pair, pairsBytes, Parse, parse, parsed, faulty}
 use Rattle.variables.specs.Edits.{normalizePairs}
 

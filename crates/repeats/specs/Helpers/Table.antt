@@ -5,8 +5,8 @@ use mathlib.Core.Bool.{Bool, true, false}
 use mathlib.Core.List.{List, [], _∷_}
 use lib.Bits.{bitXor}
 use lib.ListN.{length, getD}
-use Rattle.repeats.specs.Pieces.{nameAt}
-use Rattle.repeats.specs.Places.{Start, Best, Distinct, Early}
+use Rattle.repeats.specs.Pieces.{pieceName}
+use Rattle.repeats.specs.Helpers.Places.{Start, Best, Distinct, Early}
 
 -- a byte more in a hash: the two halves of the hash by multiply with carry, and the byte spread over them by exclusive or
 unfoldable pub mixed : ℕ → ℕ → ℕ
@@ -54,13 +54,13 @@ pub record Table (l links starts : List ℕ) (k : ℕ) : Type 0 where
   pub inside : (i : ℕ) → i < k → getD starts i 0 < length l
   pub below : (at j : ℕ) → getD links at 0 ≡ suc j → j < k
   pub onward : (at j : ℕ) → getD links at 0 ≡ suc j → at < length starts + 2 * j
-  pub cover : (i : ℕ) → i < k → Found links (length starts) (rootOf (length starts) (hashOf (nameAt l (getD starts i 0)))) (wayOf (hashOf (nameAt l (getD starts i 0)))) i
+  pub cover : (i : ℕ) → i < k → Found links (length starts) (rootOf (length starts) (hashOf (pieceName l (getD starts i 0)))) (wayOf (hashOf (pieceName l (getD starts i 0)))) i
 
 -- an entry of the table has the name that stands at `at`
 pub record Hit (l starts : List ℕ) (k at : ℕ) : Type 0 where
   pub entry : ℕ
   pub below : entry < k
-  pub same : nameAt l (getD starts entry 0) ≡ nameAt l at
+  pub same : pieceName l (getD starts entry 0) ≡ pieceName l at
 
 -- the walk by the hash h ends at this empty link
 pub record Free (links : List ℕ) (n k h link : ℕ) : Type 0 where
@@ -71,26 +71,26 @@ pub record Free (links : List ℕ) (n k h link : ℕ) : Type 0 where
 -- the walk to the name at `at` finds it, or ends at this link
 pub record Walked (l links starts : List ℕ) (k at link : ℕ) (hit : Bool) : Type 0 where
   pub found : hit ≡ true → Hit l starts k at
-  pub missed : hit ≡ false → (i : ℕ) → i < k → nameAt l (getD starts i 0) ≡ nameAt l at → ⊥
-  pub free : hit ≡ false → Free links (length starts) k (hashOf (nameAt l at)) link
+  pub missed : hit ≡ false → (i : ℕ) → i < k → pieceName l (getD starts i 0) ≡ pieceName l at → ⊥
+  pub free : hit ≡ false → Free links (length starts) k (hashOf (pieceName l at)) link
 
 -- the entry that holds a start
-pub record Entry (starts : List ℕ) (k p : ℕ) : Type 0 where
+pub record Slot (starts : List ℕ) (k p : ℕ) : Type 0 where
   pub entry : ℕ
   pub below : entry < k
   pub is : getD starts entry 0 ≡ p
 
 -- the entries are the starts from `from` up to `at`
-pub record Holds (l starts : List ℕ) (k from at : ℕ) : Type 0 where
+pub record Filled (l starts : List ℕ) (k from at : ℕ) : Type 0 where
   pub begins : (i : ℕ) → i < k → Start l (getD starts i 0)
   pub low : (i : ℕ) → i < k → from ≤ getD starts i 0
   pub high : (i : ℕ) → i < k → getD starts i 0 < at
-  pub full : (p : ℕ) → from ≤ p → p < at → Start l p → Entry starts k p
+  pub full : (p : ℕ) → from ≤ p → p < at → Start l p → Slot starts k p
 
 -- a block from `from` is gathered up to `at`
 pub record Block (l links starts : List ℕ) (k from at best : ℕ) : Type 0 where
   pub table : Table l links starts k
-  pub holds : Holds l starts k from at
+  pub holds : Filled l starts k from at
   pub from-low : from ≤ at
   pub at-high : at ≤ best
   pub best-in : best ≤ length l

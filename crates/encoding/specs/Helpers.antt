@@ -1,4 +1,4 @@
--- The bytes at the start of a list that are equal.
+-- For the loops: the bytes at the start of a list that are equal.
 use Prim.Native.Nat.{ℕ, suc}
 use mathlib.Core.Bool.{cond}
 use mathlib.Core.List.{List, [], _∷_}
