@@ -3,3 +3,4 @@ pub mod ChecksumLaws
 pub mod ValidityLaws
 pub mod RuleLaws
 pub mod SameLaws
+pub mod NewLaws

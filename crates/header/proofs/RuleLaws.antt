@@ -1,6 +1,6 @@
 -- The first broken rule that is computed, and the rules by the bytes of the image: each exactly when the other.
 use Prim.Native.Nat.{ℕ, _+_, _-_, _*_, _/_, _%_, _≤_, _<_}
-use mathlib.Core.Path.{_≡_, ap, refl, sym, _∙_}
+use mathlib.Core.Path.{_≡_, ap, refl, sym, subst, _∙_}
 use mathlib.Core.Logic.{_≢_, _↔_}
 use mathlib.Core.List.{List, _∷_}
 use native.Mathlib.Omega.{arith}
@@ -11,12 +11,15 @@ use Rattle.lists.proofs.Tests.{clash}
 use Rattle.lists.proofs.ByteLaws.{every-get}
 use Rattle.header.specs.declared.Blocks.{Blocks}
 use Rattle.errors.specs.declared.HeaderFault.{HeaderFault}
+use Rattle.errors.specs.declared.HeaderFault.the-variants.{ZeroLength, PastEnd, Checksum, ZeroChecksum}
 use Rattle.errors.specs.declared.Error.the-variants.{BadHeader}
+use Rattle.errors.specs.Errors.{headerCode}
+use Rattle.header.specs.declared.ValidityAnswer.{ValidityAnswer}
 use Rattle.header.specs.declared.Validity.{Validity}
 use Rattle.header.specs.declared.Validity.the-variants.{Valid, Invalid}
 use Rattle.header.specs.Checksum.{sum, sumcheck, closedForm}
-use Rattle.header.specs.Header.{byteAt, nameAt, headerAt, bytesOf, coveredBytes, firstBroken, validityOf, validityAt}
-use Rattle.header.specs.Rules.{blocksAt, checksumAt, Sound, Breaks, two, three, four, five}
+use Rattle.header.specs.Header.{byteAt, nameAt, headerAt, bytesOf, coveredBytes, firstBroken, validityOf, validityAt, validityAnswer}
+use Rattle.header.specs.Rules.{blocksAt, checksumAt, Sound, Breaks, two, three, four, five, HeaderAnswers, is-sound, is-two, is-three, is-four, is-five}
 use Rattle.header.proofs.SumLaws.{name-sum}
 use Rattle.header.proofs.ChecksumLaws.{closed-form, sum-covered}
 use Rattle.header.proofs.ValidityLaws.{zero-length, past-end, checksum-differs, checksum-zero, no-rule-broken, cut-off}
@@ -152,3 +155,24 @@ module _ (image : List ℕ) (at : ℕ) where
         go : (v : Validity) → Judged v → v ≡ Invalid (BadHeader f at) → Breaks image at f
         go Valid (sound s) q = clash (cc)
         go (Invalid x) (faulty {f = g} b) q = let p : g ≡ f = cc in rw p at b
+
+    answer-row : (f : HeaderFault) → Breaks image at f → HeaderAnswers image at (record { code = headerCode f; offset = at })
+    answer-row ZeroLength b = is-two b
+    answer-row PastEnd b = is-three b
+    answer-row Checksum b = is-four b
+    answer-row ZeroChecksum b = is-five b
+
+    answers-validity : {s : ValidityAnswer} → HeaderAnswers image at s → validityAnswer (validityAt image at) ≡ s
+    answers-validity (is-sound x) = ap validityAnswer (sound-valid x)
+    answers-validity (is-two b) = ap validityAnswer (breaks-invalid b)
+    answers-validity (is-three b) = ap validityAnswer (breaks-invalid b)
+    answers-validity (is-four b) = ap validityAnswer (breaks-invalid b)
+    answers-validity (is-five b) = ap validityAnswer (breaks-invalid b)
+
+    -- THE CALLER'S VIEW of a header is its row
+    pub validity-exactly : (s : ValidityAnswer) → (validityAnswer (validityAt image at) ≡ s) ↔ HeaderAnswers image at s
+    validity-exactly s = (λ e. subst (HeaderAnswers image at) e (row (validityAt image at) judged), answers-validity)
+      where
+        row : (v : Validity) → Judged v → HeaderAnswers image at (validityAnswer v)
+        row Valid (sound x) = is-sound x
+        row (Invalid e) (faulty {f = f} b) = answer-row f b

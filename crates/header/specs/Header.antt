@@ -45,6 +45,10 @@ headerAt image at =
 abbrev pub coveredBytes : Header → List ℕ
 coveredBytes h = h .signature ∷ h .length .0 / 256 % 256 ∷ h .length .0 % 256 ∷ h .name
 
+-- the 16 bytes of a header as they stand in an image, the length's high byte first
+abbrev pub headerBytes : Header → List ℕ
+headerBytes h = h .signature ∷ h .checksum ∷ h .length .0 / 256 % 256 ∷ h .length .0 % 256 ∷ h .name
+
 -- the header of these fields, with the checksum that is right for them
 abbrev pub sealed : ℕ → Blocks → List ℕ → Header
 sealed signature blocks name =

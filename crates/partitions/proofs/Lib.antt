@@ -3,6 +3,7 @@ pub mod WalkLaws
 pub mod CheckLaws
 pub mod FindLaws
 pub mod CoverLaws
+pub mod StepRows
 pub mod FoundLaws
 pub mod AreaLaws
 pub mod FrameLaws

@@ -4,11 +4,14 @@ use mathlib.Core.Path.{_≡_}
 use mathlib.Core.List.{List, [], _∷_, _++_}
 use lib.ListN.{length, take, drop, replicate}
 use Rattle.errors.specs.declared.HeaderFault.{HeaderFault}
+use Rattle.errors.specs.declared.HeaderFault.the-variants.{ZeroLength, PastEnd, Checksum, ZeroChecksum}
 use Rattle.errors.specs.declared.Error.{Error}
 use Rattle.errors.specs.declared.Error.the-variants.{ImageLength, BadHeader}
 use Rattle.header.specs.Header.{byteAt, nameAt}
 use Rattle.header.specs.Rules.{blocksAt, Sound, Breaks}
 use Rattle.partitions.specs.declared.Partition.{Partition}
+use Rattle.partitions.specs.declared.StepAnswer.{StepAnswer}
+use Rattle.partitions.specs.Answers.{noStep}
 
 -- an image's length is a multiple of 16, from 16 to 1,048,576 bytes
 pub record LengthRule (n : ℕ) : Type 0 where
@@ -95,3 +98,14 @@ pub record OutsideKept (image : List ℕ) (at : ℕ) (changed : List ℕ) : Type
   pub long : length changed ≡ length image
   pub before : take (at + 16) changed ≡ take (at + 16) image
   pub after : drop (pastAt image at) changed ≡ drop (pastAt image at) image
+
+-- what a caller sees of a step at an offset: the partition there and the next offset, the end, or the first rule that is broken
+pub data StepAnswers (image : List ℕ) (at : ℕ) : StepAnswer → Type 0 where
+  shows : Sound image at
+      → StepAnswers image at
+      (record { code = 0; offset = 0; header = at; blocks = blocksAt image at; signature = byteAt image at 0; next = pastAt image at })
+  ends : length image ≤ at → StepAnswers image at (noStep 0 0)
+  step-two : at < length image → Breaks image at ZeroLength → StepAnswers image at (noStep 2 at)
+  step-three : at < length image → Breaks image at PastEnd → StepAnswers image at (noStep 3 at)
+  step-four : at < length image → Breaks image at Checksum → StepAnswers image at (noStep 4 at)
+  step-five : at < length image → Breaks image at ZeroChecksum → StepAnswers image at (noStep 5 at)

@@ -4,7 +4,7 @@ ghost use mathlib.Core.Bool.{true};
 ghost use Rattle.partitions.specs.Walk.{allowedLength, stepAt};
 ghost use Rattle.partitions.specs.Find.{checkOf, indexOf};
 ghost use Rattle.partitions.specs.Helpers.{keepFirst};
-ghost use Rattle.partitions.specs.Answers.{stepAnswer, checkAnswer, findAnswer};
+ghost use Rattle.partitions.specs.Answers.{noStep, stepAnswer, checkAnswer, findAnswer};
 use errors::Error;
 use header::Blocks;
 use header::Header;
@@ -45,6 +45,22 @@ pub struct StepAnswer {
     pub next: usize,
 }
 
+impl StepAnswer {
+    // Of a step that has no partition to show.
+    fn none(code: u32, offset: usize) -> Self
+        ensures { λ r. ⌜ r ≡ noStep code offset ⌝ }
+    {
+        StepAnswer {
+            code,
+            offset,
+            header: 0,
+            blocks: 0,
+            signature: 0,
+            next: 0,
+        }
+    }
+}
+
 impl Step {
     pub fn answer(self) -> StepAnswer
         ensures { λ r. ⌜ r ≡ stepAnswer self ⌝ }
@@ -58,22 +74,8 @@ impl Step {
                 signature: here.signature,
                 next: cursor.at,
             },
-            Step::End => StepAnswer {
-                code: 0,
-                offset: 0,
-                header: 0,
-                blocks: 0,
-                signature: 0,
-                next: 0,
-            },
-            Step::Broken(e) => StepAnswer {
-                code: e.code(),
-                offset: e.offset(),
-                header: 0,
-                blocks: 0,
-                signature: 0,
-                next: 0,
-            },
+            Step::End => StepAnswer::none(0, 0),
+            Step::Broken(e) => StepAnswer::none(e.code(), e.offset()),
         }
     }
 }

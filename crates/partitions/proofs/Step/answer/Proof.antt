@@ -1,5 +1,7 @@
 -- `Step::answer` meets its contract, case by case.
+use mathlib.Core.Path.{_∙_}
 use borrow.Author.Needs.{needs}
+use Rattle.partitions.specs.Answers.{noStep}
 use Rattle.partitions.proofs.Step.answer.Statement.{statement}
 use Rattle.partitions.proofs.Step.answer.Tie as tie
 
@@ -8,6 +10,9 @@ enum-known-self c = search needs
 
 enum-told : tie.Need-enum-told
 enum-told c = search needs
+
+none-requires : tie.Need-none-requires
+none-requires c κs = search needs
 
 enum-known-self-2 : tie.Need-enum-known-self-2
 enum-known-self-2 c = search needs
@@ -18,16 +23,21 @@ code-requires c κs = search needs
 offset-requires : tie.Need-offset-requires
 offset-requires c κs = search needs
 
+none-requires-2 : tie.Need-none-requires-2
+none-requires-2 c κs = search needs
+
 returns : tie.Need-returns
 returns c = rw (c .before .self .given .1)
 
 returns-2 : tie.Need-returns-2
-returns-2 c = rw (c .enum-told .given .1)
+returns-2 c = rw (c .before .enum-told .given .1) (c .none .ensures)
 
 returns-3 : tie.Need-returns-3
 returns-3 c =
-    let e = c .before .before .before .self2 .given .1 in
-    rw e (λ i. record { code = c .before .code .ensures i; offset = c .offset .ensures i; header = 0; blocks = 0; signature = 0; next = 0 })
+    let o = c .before in
+    let k = o .before in
+    let e = k .before .before .self2 .given .1 in
+    rw e (c .none2 .ensures ∙ (λ i. noStep (k .code .ensures i) (o .offset .ensures i)))
 
 pub answer-spec : {M : Type 1} → statement M
 answer-spec =
@@ -35,9 +45,11 @@ answer-spec =
     (tie.spec
     enum-known-self
     enum-told
+    none-requires
     enum-known-self-2
     code-requires
     offset-requires
+    none-requires-2
     returns
     returns-2
     returns-3)
