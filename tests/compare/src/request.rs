@@ -85,7 +85,7 @@ fn raw_question(image: &[u8], request: &Request, offset: &mut usize, out: &mut [
     let (start, length) = (image.as_ptr(), image.len());
     let [first, second, third] = out;
     *first = UNSET;
-    // All pointers come from live borrows, with the lengths of their slices.
+    // SAFETY: each pointer is of a live borrow with its slice's length: valid, not null, and none overlaps another.
     unsafe {
         match request {
             Request::Check => sys::nvram_check(start, length, offset, first),
@@ -116,7 +116,7 @@ fn raw_read(
     length: &mut usize,
 ) -> u32 {
     *length = UNSET;
-    // All pointers come from live borrows, with the lengths of their slices.
+    // SAFETY: each pointer is of a live borrow with its slice's length: valid, not null, and none overlaps another.
     unsafe {
         sys::nvram_read(
             image.as_ptr(),
@@ -134,13 +134,13 @@ fn raw_read(
 fn raw_listing(image: &[u8], text: &mut [u8], length: &mut usize) -> u32 {
     *length = UNSET;
     let (start, size) = (image.as_ptr(), image.len());
-    // All pointers come from live borrows, with the lengths of their slices.
+    // SAFETY: each pointer is of a live borrow with its slice's length: valid, not null, and none overlaps another.
     unsafe { sys::nvram_listing(start, size, text.as_mut_ptr(), text.len(), length) }
 }
 
 fn raw_edit(image: &mut [u8], request: &Request, offset: &mut usize) -> u32 {
     let (start, length) = (image.as_mut_ptr(), image.len());
-    // All pointers come from live borrows, with the lengths of their slices.
+    // SAFETY: each pointer is of a live borrow with its slice's length: valid, not null, and none overlaps another.
     unsafe {
         match request {
             Request::Set(name, value) => sys::nvram_set(
@@ -181,7 +181,10 @@ pub fn wrapped(image: &mut [u8], request: &Request) -> Reply {
         Request::Normalize => nvram::normalize(image).map(|()| [0; 3]),
         Request::Listing(_) => nvram::listing(image, &mut buffer).map(|text| [text.len(), 0, 0]),
     };
-    reply(result.map_err(|error| (error.code.number(), error.offset)), buffer)
+    reply(
+        result.map_err(|error| (error.code.number(), error.offset)),
+        buffer,
+    )
 }
 
 /// A reply from the outputs, or from the code and the offset of an error.
@@ -218,7 +221,10 @@ pub fn expected(image: &mut [u8], request: &Request) -> Reply {
         Request::Normalize => reference::normalize(image).map(|()| [0; 3]),
         Request::Listing(_) => expected_listing(image, &mut buffer),
     };
-    reply(result.map_err(|refusal| (refusal.code, refusal.offset)), buffer)
+    reply(
+        result.map_err(|refusal| (refusal.code, refusal.offset)),
+        buffer,
+    )
 }
 
 /// Puts the whole listing at the start of the text, or refuses with 14 if it has no room.

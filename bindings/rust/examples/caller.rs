@@ -8,7 +8,10 @@ fn tally(path: &str) -> Result<(), Box<dyn Error>> {
     let mut buffer = [0; 16];
     let value = nvram::read(&image, b"tally", &mut buffer)?;
     let variables = nvram::count(&image)?;
-    println!("tally={}, {variables} variables", String::from_utf8_lossy(value));
+    println!(
+        "tally={}, {variables} variables",
+        String::from_utf8_lossy(value)
+    );
     Ok(())
 }
 

@@ -1,14 +1,19 @@
-//! Safe calls into the verified NVRAM library.
+//! Safe calls into the proved NVRAM library.
 //!
 //! Every function takes slices, so pointers and lengths always agree and nothing overlaps.
 //! A refused call leaves the image and the buffer with the bytes they had.
+
+#![no_std]
+
+#[cfg(test)]
+extern crate std;
 
 mod error;
 pub mod sys;
 
 pub use error::{Code, Error};
 
-use std::ops::Range;
+use core::ops::Range;
 
 /// The bytes of a block, which are also the bytes of a header.
 const BLOCK: usize = 16;
@@ -16,8 +21,11 @@ const BLOCK: usize = 16;
 /// A partition: the offset of its header, its length in blocks, and its signature.
 #[derive(Debug, Clone, Copy, PartialEq, Eq)]
 pub struct Partition {
+    /// The offset of the header in the image.
     pub header: usize,
+    /// The length in blocks of 16 bytes, header included.
     pub blocks: usize,
+    /// The signature, which is the kind of partition.
     pub signature: u8,
 }
 
@@ -30,11 +38,13 @@ impl Partition {
 
 /// Turns the answer of a C function into a result.
 fn answer<T>(code: u32, offset: usize, done: T) -> Result<T, Error> {
-    if code == 0 {
-        return Ok(done);
+    match code {
+        0 => Ok(done),
+        number => Err(Error {
+            code: Code::from_number(number),
+            offset,
+        }),
     }
-    let code = Code::from_number(code).expect("the library answers codes from 0 to 14");
-    Err(Error { code, offset })
 }
 
 /// Checks a whole image and answers its number of partitions.
@@ -48,7 +58,7 @@ fn answer<T>(code: u32, offset: usize, done: T) -> Result<T, Error> {
 /// ```
 pub fn check(image: &[u8]) -> Result<usize, Error> {
     let (mut offset, mut partitions) = (0, 0);
-    // The pointers come from live borrows, with the lengths of their slices.
+    // SAFETY: each pointer is of a live borrow with its slice's length: valid, not null, and none overlaps another.
     let code =
         unsafe { sys::nvram_check(image.as_ptr(), image.len(), &mut offset, &mut partitions) };
     answer(code, offset, partitions)
@@ -57,7 +67,7 @@ pub fn check(image: &[u8]) -> Result<usize, Error> {
 /// The partition with an index, counted from 0.
 pub fn partition(image: &[u8], index: usize) -> Result<Partition, Error> {
     let (mut offset, mut header, mut blocks, mut signature) = (0, 0, 0, 0);
-    // The pointers come from live borrows, with the lengths of their slices.
+    // SAFETY: each pointer is of a live borrow with its slice's length: valid, not null, and none overlaps another.
     let code = unsafe {
         sys::nvram_partition(
             image.as_ptr(),
@@ -89,7 +99,7 @@ pub fn partition(image: &[u8], index: usize) -> Result<Partition, Error> {
 /// ```
 pub fn find(image: &[u8], signature: u8, name: &[u8]) -> Result<Partition, Error> {
     let (mut offset, mut header, mut blocks) = (0, 0, 0);
-    // The pointers come from live borrows, with the lengths of their slices.
+    // SAFETY: each pointer is of a live borrow with its slice's length: valid, not null, and none overlaps another.
     let code = unsafe {
         sys::nvram_find(
             image.as_ptr(),
@@ -113,7 +123,7 @@ pub fn find(image: &[u8], signature: u8, name: &[u8]) -> Result<Partition, Error
 /// The number of variables.
 pub fn count(image: &[u8]) -> Result<usize, Error> {
     let (mut offset, mut variables) = (0, 0);
-    // The pointers come from live borrows, with the lengths of their slices.
+    // SAFETY: each pointer is of a live borrow with its slice's length: valid, not null, and none overlaps another.
     let code =
         unsafe { sys::nvram_count(image.as_ptr(), image.len(), &mut offset, &mut variables) };
     answer(code, offset, variables)
@@ -122,7 +132,7 @@ pub fn count(image: &[u8]) -> Result<usize, Error> {
 /// Copies a variable's value into the buffer and answers that part of the buffer.
 pub fn read<'b>(image: &[u8], name: &[u8], buffer: &'b mut [u8]) -> Result<&'b [u8], Error> {
     let (mut offset, mut length) = (0, 0);
-    // The pointers come from live borrows, with the lengths of their slices.
+    // SAFETY: each pointer is of a live borrow with its slice's length: valid, not null, and none overlaps another.
     let code = unsafe {
         sys::nvram_read(
             image.as_ptr(),
@@ -135,7 +145,7 @@ pub fn read<'b>(image: &[u8], name: &[u8], buffer: &'b mut [u8]) -> Result<&'b [
             &mut length,
         )
     };
-    answer(code, offset, &buffer[..length])
+    answer(code, offset, length).map(|length| &buffer[..length])
 }
 
 /// Gives a variable a value, and adds the variable after the last one if it is new.
@@ -150,7 +160,7 @@ pub fn read<'b>(image: &[u8], name: &[u8], buffer: &'b mut [u8]) -> Result<&'b [
 /// ```
 pub fn set(image: &mut [u8], name: &[u8], value: &[u8]) -> Result<(), Error> {
     let mut offset = 0;
-    // The pointers come from live borrows, with the lengths of their slices.
+    // SAFETY: each pointer is of a live borrow with its slice's length: valid, not null, and none overlaps another.
     let code = unsafe {
         sys::nvram_set(
             image.as_mut_ptr(),
@@ -168,7 +178,7 @@ pub fn set(image: &mut [u8], name: &[u8], value: &[u8]) -> Result<(), Error> {
 /// Takes a variable out.
 pub fn remove(image: &mut [u8], name: &[u8]) -> Result<(), Error> {
     let mut offset = 0;
-    // The pointers come from live borrows, with the lengths of their slices.
+    // SAFETY: each pointer is of a live borrow with its slice's length: valid, not null, and none overlaps another.
     let code = unsafe {
         sys::nvram_remove(
             image.as_mut_ptr(),
@@ -184,7 +194,7 @@ pub fn remove(image: &mut [u8], name: &[u8]) -> Result<(), Error> {
 /// Gives the data area of the variables its canonical form.
 pub fn normalize(image: &mut [u8]) -> Result<(), Error> {
     let mut offset = 0;
-    // The pointers come from live borrows, with the lengths of their slices.
+    // SAFETY: each pointer is of a live borrow with its slice's length: valid, not null, and none overlaps another.
     let code = unsafe { sys::nvram_normalize(image.as_mut_ptr(), image.len(), &mut offset) };
     answer(code, offset, ())
 }
@@ -198,7 +208,7 @@ pub fn normalize(image: &mut [u8]) -> Result<(), Error> {
 /// ```
 pub fn listing<'t>(image: &[u8], text: &'t mut [u8]) -> Result<&'t [u8], Error> {
     let mut length = 0;
-    // The pointers come from live borrows, with the lengths of their slices.
+    // SAFETY: each pointer is of a live borrow with its slice's length: valid, not null, and none overlaps another.
     let code = unsafe {
         sys::nvram_listing(
             image.as_ptr(),
@@ -208,5 +218,17 @@ pub fn listing<'t>(image: &[u8], text: &'t mut [u8]) -> Result<&'t [u8], Error> 
             &mut length,
         )
     };
-    answer(code, 0, &text[..length])
+    answer(code, 0, length).map(|length| &text[..length])
+}
+
+#[cfg(test)]
+mod tests {
+    use super::*;
+
+    #[test]
+    fn unknown_code_is_an_error() {
+        let code = Code::Unknown(20);
+        assert_eq!(answer(20, 5, ()), Err(Error { code, offset: 5 }));
+        assert_eq!(answer(0, 0, 7), Ok(7));
+    }
 }
