@@ -11,7 +11,8 @@
  *   none; every other output is 0 with every code from 1 up.
  * - A call that answers a code from 1 up has changed no byte of the image or
  *   of the buffer.
- * - No call keeps a state; calls on different images may run at once.
+ * - No call keeps a state; calls on different images may run at once, and so
+ *   may calls on one image that only read it.
  */
 #ifndef NVRAM_H
 #define NVRAM_H
@@ -23,26 +24,79 @@
 extern "C" {
 #endif
 
-/* Error codes, and the offset that each answers. They are tested in the order
- * 11, 1, the headers from byte 0 with 2 to 5 at each, 6, the area from its
- * first byte with 7 to 10, then 12, 13, 14. */
+/* The version of this header and of the library. */
+#define NVRAM_VERSION_MAJOR 0
+#define NVRAM_VERSION_MINOR 1
+#define NVRAM_VERSION_PATCH 0
+#define NVRAM_VERSION "0.1.0"
+
+/* Limits, in bytes. */
+#define NVRAM_BLOCK 16                /* a block, and a header */
+#define NVRAM_IMAGE_MAX 1048576       /* the longest image */
+#define NVRAM_PARTITION_NAME_MAX 12   /* the longest partition name */
+#define NVRAM_VARIABLE_NAME_MAX 31    /* the longest variable name */
+#define NVRAM_LISTED_IMAGE_MAX 65536  /* the longest image that is listed */
+#define NVRAM_LISTING_MAX 131072      /* room for the listing of every image */
+
+/* Error codes, and the offset that each answers; nvram_error_text says them in
+ * words. They are tested in the order 11, 1, the headers from byte 0 with 2 to
+ * 5 at each, 6, the area from its first byte with 7 to 10, then 12, 13, 14. */
 enum nvram_code {
-    NVRAM_DONE = 0,
-    NVRAM_IMAGE_LENGTH = 1,  /* not a multiple of 16 from 16 to 1048576; 0 */
-    NVRAM_ZERO_LENGTH = 2,   /* a length field is zero; the header */
-    NVRAM_PAST_END = 3,      /* a partition runs past the image's end; the header */
-    NVRAM_CHECKSUM = 4,      /* stored and computed checksum differ; the header */
-    NVRAM_ZERO_CHECKSUM = 5, /* they agree and are zero; the header */
-    NVRAM_NO_PARTITION = 6,  /* the partition is not found; 0 */
-    NVRAM_AREA_END = 7,      /* the area ends inside a pair or before the end; just past the area */
-    NVRAM_STORED_NAME = 8,   /* a stored name breaks the name rule; its first wrong byte */
-    NVRAM_ESCAPE = 9,        /* 0xFF is followed by 0x00 or 0x80; that second byte */
-    NVRAM_REPEATED = 10,     /* a name stands a second time; the later pair */
-    NVRAM_BAD_NAME = 11,     /* the caller's variable name breaks the name rule; 0 */
-    NVRAM_NO_VARIABLE = 12,  /* the variable is not found; 0 */
-    NVRAM_NO_ROOM = 13,      /* the pairs and the ending 0x00 exceed the area; 0 */
-    NVRAM_SHORT_BUFFER = 14  /* the buffer is shorter than the value or text; 0 */
+    NVRAM_DONE = 0,          /* 0 */
+    NVRAM_IMAGE_LENGTH = 1,  /* 0 */
+    NVRAM_ZERO_LENGTH = 2,   /* header's offset */
+    NVRAM_PAST_END = 3,      /* header's offset */
+    NVRAM_CHECKSUM = 4,      /* header's offset */
+    NVRAM_ZERO_CHECKSUM = 5, /* header's offset */
+    NVRAM_NO_PARTITION = 6,  /* 0 */
+    NVRAM_AREA_END = 7,      /* offset just past the area */
+    NVRAM_STORED_NAME = 8,   /* offset of the byte */
+    NVRAM_ESCAPE = 9,        /* offset of that second byte */
+    NVRAM_REPEATED = 10,     /* offset of the later pair */
+    NVRAM_BAD_NAME = 11,     /* 0 */
+    NVRAM_NO_VARIABLE = 12,  /* 0 */
+    NVRAM_NO_ROOM = 13,      /* 0 */
+    NVRAM_SHORT_BUFFER = 14  /* 0 */
 };
+
+/* A code in words, a constant string; "unknown code" for any other number. */
+static inline const char *nvram_error_text(uint32_t code)
+{
+    switch (code) {
+    case NVRAM_DONE:
+        return "done";
+    case NVRAM_IMAGE_LENGTH:
+        return "the image's length is not a multiple of 16 from 16 to 1048576";
+    case NVRAM_ZERO_LENGTH:
+        return "a partition's length field is zero";
+    case NVRAM_PAST_END:
+        return "a partition runs past the image's end";
+    case NVRAM_CHECKSUM:
+        return "a header's stored and computed checksum differ";
+    case NVRAM_ZERO_CHECKSUM:
+        return "a header's stored and computed checksum agree and are zero";
+    case NVRAM_NO_PARTITION:
+        return "the partition is not found";
+    case NVRAM_AREA_END:
+        return "the area ends inside a pair, or where a pair or the end should begin";
+    case NVRAM_STORED_NAME:
+        return "a stored name breaks the name rule";
+    case NVRAM_ESCAPE:
+        return "a stored 0xFF is followed by 0x00 or 0x80";
+    case NVRAM_REPEATED:
+        return "a name stands a second time";
+    case NVRAM_BAD_NAME:
+        return "the caller's variable name breaks the name rule";
+    case NVRAM_NO_VARIABLE:
+        return "the variable is not found";
+    case NVRAM_NO_ROOM:
+        return "the pairs and the ending 0x00 after the edit exceed the area";
+    case NVRAM_SHORT_BUFFER:
+        return "the buffer is shorter than the value or the text";
+    default:
+        return "unknown code";
+    }
+}
 
 /* Checks an image: the number of partitions that cover it. Codes 0 to 5. */
 uint32_t nvram_check(const uint8_t *image, size_t image_len,
@@ -50,14 +104,15 @@ uint32_t nvram_check(const uint8_t *image, size_t image_len,
 
 /* The partition of an index from 0, in image order: the offset of its header,
  * its length in blocks of 16 bytes, header included, and its signature. Its
- * data area is the bytes from header + 16 up to header + 16 * blocks.
+ * data area is the bytes from header + NVRAM_BLOCK up to
+ * header + NVRAM_BLOCK * blocks.
  * Codes 0 to 6. */
 uint32_t nvram_partition(const uint8_t *image, size_t image_len, size_t index,
                          size_t *offset, size_t *header, size_t *blocks,
                          uint8_t *signature);
 
 /* The first partition of a signature and a name, which is filled with 0x00 to
- * twelve bytes; a longer one matches none. Codes 0 to 6. */
+ * NVRAM_PARTITION_NAME_MAX bytes; a longer one matches none. Codes 0 to 6. */
 uint32_t nvram_find(const uint8_t *image, size_t image_len, uint8_t signature,
                     const uint8_t *name, size_t name_len,
                     size_t *offset, size_t *header, size_t *blocks);
@@ -74,8 +129,9 @@ uint32_t nvram_read(const uint8_t *image, size_t image_len,
                     size_t *offset, size_t *length);
 
 /* Sets a variable: its pair is replaced where it stands, or added after the
- * last. A name has 1 to 31 bytes of 0x21 to 0x7E without A to Z and without
- * / \ : [ ] @ =; a value has any bytes, or none. Codes 0 to 11 and 13. */
+ * last. A name has 1 to NVRAM_VARIABLE_NAME_MAX bytes of 0x21 to 0x7E without
+ * A to Z and without / \ : [ ] @ =; a value has any bytes, or none. Codes 0 to
+ * 11 and 13. */
 uint32_t nvram_set(uint8_t *image, size_t image_len,
                    const uint8_t *name, size_t name_len,
                    const uint8_t *value, size_t value_len, size_t *offset);
@@ -89,8 +145,8 @@ uint32_t nvram_remove(uint8_t *image, size_t image_len,
 uint32_t nvram_normalize(uint8_t *image, size_t image_len, size_t *offset);
 
 /* Writes a listing of the partitions to the start of the text buffer; a line
- * "refused N at P" or "too long" (above 65536 bytes) where there is none.
- * Codes 0 and 14. 131072 bytes of text are enough for every image. */
+ * "refused N at P", or "too long" above NVRAM_LISTED_IMAGE_MAX bytes, where
+ * there is none. Codes 0 and 14. */
 uint32_t nvram_listing(const uint8_t *image, size_t image_len,
                        uint8_t *text, size_t text_len, size_t *length);
 

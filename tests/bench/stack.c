@@ -8,24 +8,10 @@
 #include <stdlib.h>
 #include <string.h>
 
-uint32_t nvram_check(const uint8_t *image, size_t image_len, size_t *offset, size_t *partitions);
-uint32_t nvram_partition(const uint8_t *image, size_t image_len, size_t index, size_t *offset,
-                         size_t *header, size_t *blocks, uint8_t *signature);
-uint32_t nvram_find(const uint8_t *image, size_t image_len, uint8_t signature, const uint8_t *name,
-                    size_t name_len, size_t *offset, size_t *header, size_t *blocks);
-uint32_t nvram_count(const uint8_t *image, size_t image_len, size_t *offset, size_t *variables);
-uint32_t nvram_read(const uint8_t *image, size_t image_len, const uint8_t *name, size_t name_len,
-                    uint8_t *buffer, size_t buffer_len, size_t *offset, size_t *length);
-uint32_t nvram_set(uint8_t *image, size_t image_len, const uint8_t *name, size_t name_len,
-                   const uint8_t *value, size_t value_len, size_t *offset);
-uint32_t nvram_remove(uint8_t *image, size_t image_len, const uint8_t *name, size_t name_len,
-                      size_t *offset);
-uint32_t nvram_normalize(uint8_t *image, size_t image_len, size_t *offset);
-uint32_t nvram_listing(const uint8_t *image, size_t image_len, uint8_t *text, size_t text_len,
-                       size_t *length);
+#include "nvram.h"
 
-#define BLOCK 16
-#define LONGEST (65536 * BLOCK)
+#define BLOCK NVRAM_BLOCK
+#define LONGEST NVRAM_IMAGE_MAX
 #define STACK (4096 * 1024)
 #define PAGE 65536
 #define GAP 16384
@@ -195,23 +181,26 @@ static size_t deepest(uint8_t *stack, const struct job *job)
 int main(void)
 {
     static const struct job nothing = {"nothing", call_nothing};
-    size_t depth[2][JOBS];
+    /* The blocks of each image, and its variables. */
+    static const size_t sizes[3][2] = {{66, 150}, {4096, 10000}, {65536, 150000}};
+    size_t depth[3][JOBS];
     size_t size, i;
     void *stack;
     if (posix_memalign(&stack, PAGE, STACK) != 0)
         fail("no memory");
-    for (size = 0; size < 2; size++) {
+    for (size = 0; size < 3; size++) {
         size_t empty;
-        make_image(size == 0 ? 4096 : 65536, size == 0 ? 10000 : 150000);
+        make_image(sizes[size][0], sizes[size][1]);
         empty = deepest(stack, &nothing);
         for (i = 0; i < JOBS; i++)
             depth[size][i] = deepest(stack, &jobs[i]) - empty;
     }
     printf("Bytes of stack that each call touches at its deepest, measured on a painted stack, "
            "less those of a thread that makes no call.\n\n");
-    printf("| Call | 64 KiB, 10,000 variables | 1 MiB, 150,000 variables |\n|---|--:|--:|\n");
+    printf("| Call | 1 KiB, 150 variables | 64 KiB, 10,000 variables | 1 MiB, 150,000 variables |\n"
+           "|---|--:|--:|--:|\n");
     for (i = 0; i < JOBS; i++)
-        printf("| %s | %zu | %zu |\n", jobs[i].name, depth[0][i], depth[1][i]);
+        printf("| %s | %zu | %zu | %zu |\n", jobs[i].name, depth[0][i], depth[1][i], depth[2][i]);
     free(stack);
     return 0;
 }

@@ -3,11 +3,13 @@
 
 #include "nvram.h"
 
-static uint8_t image[1048576];
+/* One byte more than the longest image, so that a longer card is refused and not cut. */
+static uint8_t image[NVRAM_IMAGE_MAX + 1];
 
 static int refused(const char *call, uint32_t code, size_t offset)
 {
-    fprintf(stderr, "%s: refused %lu at %lu\n", call, (unsigned long)code, (unsigned long)offset);
+    fprintf(stderr, "%s: %s (error %lu at offset %lu)\n", call, nvram_error_text(code),
+            (unsigned long)code, (unsigned long)offset);
     return 1;
 }
 
@@ -18,13 +20,18 @@ int main(int argc, char **argv)
     uint8_t buffer[16];
     size_t image_len, offset, length, variables;
     uint32_t code;
-    FILE *card = argc == 2 ? fopen(argv[1], "rb") : NULL;
+    FILE *card;
 
-    if (card == NULL) {
+    if (argc != 2) {
         fprintf(stderr, "usage: caller CARD\n");
         return 2;
     }
-    image_len = fread(image, 1, sizeof image, card);
+    card = fopen(argv[1], "rb");
+    image_len = card == NULL ? 0 : fread(image, 1, sizeof image, card);
+    if (card == NULL || ferror(card)) {
+        perror(argv[1]);
+        return 1;
+    }
     fclose(card);
 
     code = nvram_set(image, image_len, name, sizeof name, value, sizeof value, &offset);

@@ -1,0 +1,94 @@
+/* Holds each limit of nvram.h to the library: done at the limit, refused one past it. */
+#include <stdio.h>
+#include <string.h>
+
+#include "nvram.h"
+
+static uint8_t image[NVRAM_IMAGE_MAX + NVRAM_BLOCK];
+static uint8_t text[NVRAM_LISTING_MAX];
+static size_t offset, number, blocks;
+static int failures;
+
+/* Tells of an answer that is not the wanted one. */
+static void want(const char *limit, uint32_t got, uint32_t wanted)
+{
+    if (got != wanted) {
+        printf("%s: %lu, wanted %lu\n", limit, (unsigned long)got, (unsigned long)wanted);
+        failures++;
+    }
+}
+
+/* Fills the image with free partitions of one block, whose names and listing are the longest. */
+static void free_blocks(void)
+{
+    static const uint8_t header[NVRAM_BLOCK + 1] = "\x7F\x1A\x00\x01wwwwwwwwwwww";
+    size_t at;
+    for (at = 0; at < sizeof image; at += NVRAM_BLOCK)
+        memcpy(image + at, header, NVRAM_BLOCK);
+}
+
+/* An image's length, and a partition's name. */
+static void partitions(void)
+{
+    const uint8_t *name = (const uint8_t *)"wwwwwwwwwwwww";
+    free_blocks();
+    want("NVRAM_IMAGE_MAX", nvram_check(image, NVRAM_IMAGE_MAX, &offset, &number), NVRAM_DONE);
+    want("NVRAM_IMAGE_MAX", (uint32_t)number, NVRAM_IMAGE_MAX / NVRAM_BLOCK);
+    want("NVRAM_IMAGE_MAX + NVRAM_BLOCK", nvram_check(image, NVRAM_IMAGE_MAX + NVRAM_BLOCK, &offset, &number),
+         NVRAM_IMAGE_LENGTH);
+    want("NVRAM_BLOCK", nvram_check(image, NVRAM_BLOCK, &offset, &number), NVRAM_DONE);
+    want("NVRAM_BLOCK - 1", nvram_check(image, NVRAM_BLOCK - 1, &offset, &number), NVRAM_IMAGE_LENGTH);
+    want("NVRAM_PARTITION_NAME_MAX",
+         nvram_find(image, NVRAM_BLOCK, 0x7F, name, NVRAM_PARTITION_NAME_MAX, &offset, &number, &blocks), NVRAM_DONE);
+    want("NVRAM_PARTITION_NAME_MAX + 1",
+         nvram_find(image, NVRAM_BLOCK, 0x7F, name, NVRAM_PARTITION_NAME_MAX + 1, &offset, &number, &blocks),
+         NVRAM_NO_PARTITION);
+}
+
+/* A listed image's length, and the room for its text. */
+static void listing(void)
+{
+    size_t longest;
+    free_blocks();
+    want("NVRAM_LISTING_MAX", nvram_listing(image, NVRAM_LISTED_IMAGE_MAX, text, NVRAM_LISTING_MAX, &longest),
+         NVRAM_DONE);
+    want("NVRAM_LISTED_IMAGE_MAX", memcmp(text, "at blocks", 9) == 0, 1);
+    want("the listing's length", nvram_listing(image, NVRAM_LISTED_IMAGE_MAX, text, longest, &number), NVRAM_DONE);
+    want("the listing's length - 1", nvram_listing(image, NVRAM_LISTED_IMAGE_MAX, text, longest - 1, &number),
+         NVRAM_SHORT_BUFFER);
+    nvram_listing(image, NVRAM_LISTED_IMAGE_MAX + 1, text, NVRAM_LISTING_MAX, &number);
+    want("NVRAM_LISTED_IMAGE_MAX + 1", number == 9 && memcmp(text, "too long\n", 9) == 0, 1);
+}
+
+/* A variable's name. */
+static void variables(void)
+{
+    static const uint8_t common[NVRAM_BLOCK + 1] = "\x70\x02\x00\x06" "common\0\0\0\0\0";
+    const size_t length = 6 * NVRAM_BLOCK;
+    uint8_t name[NVRAM_VARIABLE_NAME_MAX + 1];
+    memset(image, 0, sizeof image);
+    memcpy(image, common, NVRAM_BLOCK);
+    memset(name, 'n', sizeof name);
+    want("NVRAM_VARIABLE_NAME_MAX", nvram_set(image, length, name, NVRAM_VARIABLE_NAME_MAX, name, 1, &offset),
+         NVRAM_DONE);
+    want("NVRAM_VARIABLE_NAME_MAX + 1", nvram_set(image, length, name, NVRAM_VARIABLE_NAME_MAX + 1, name, 1, &offset),
+         NVRAM_BAD_NAME);
+}
+
+/* The version's text is its three numbers. */
+static void version(void)
+{
+    char made[32];
+    sprintf(made, "%d.%d.%d", NVRAM_VERSION_MAJOR, NVRAM_VERSION_MINOR, NVRAM_VERSION_PATCH);
+    want("NVRAM_VERSION", strcmp(made, NVRAM_VERSION) == 0, 1);
+    want("the text of no code", strcmp(nvram_error_text(0xFFFFFFFF), "unknown code") == 0, 1);
+}
+
+int main(void)
+{
+    partitions();
+    listing();
+    variables();
+    version();
+    return failures != 0;
+}
