@@ -1,10 +1,15 @@
 # The sample card that `make list` lists.
 CARD ?= samples/slof-64k.img
 
+# Where `make install` puts the package: below DESTDIR, in PREFIX, which is the folder that nvram.pc names.
+PREFIX ?= /usr/local
+DESTDIR ?=
+
 help:
 	@echo 'make list [CARD=path]   build the proved nvlist and list a card (default: samples/slof-64k.img)'
 	@echo 'make test               prove every crate, try the must-fail edits, run every program and case'
 	@echo 'make lib                prove and write target/staticlib/libnvram_c.a, for C, C++ and Rust to link'
+	@echo 'make install            install header, archive, nvlist, nvram.pc and manual pages (PREFIX, DESTDIR)'
 	@echo 'make bench              time every call beside a plain Rust implementation (needs cargo and cc)'
 	@echo 'make fmt                lay out every source, definition and proof'
 
@@ -42,4 +47,19 @@ target/staticlib/libnvram_c.a: $(sources)
 	@tests/build staticlib nvram_c
 	@touch -c $@
 
-.PHONY: help list test lib bench fmt
+prefix = $(call quoted,$(value PREFIX))
+to = $(call quoted,$(value DESTDIR))$(prefix)
+version := $(shell sed -n 's/^.define NVRAM_VERSION "\(.*\)"/\1/p' include/nvram.h)
+
+install: target/bin/nvlist target/staticlib/libnvram_c.a
+	@case $(prefix) in /*) ;; *) echo 'make install: PREFIX must begin with /' >&2; exit 1 ;; esac
+	@{ printf 'prefix=%s\n' $(prefix); sed 's/@VERSION@/$(version)/' include/nvram.pc.in; } >target/nvram.pc
+	@install -d $(to)/bin $(to)/include $(to)/lib/pkgconfig $(to)/share/man/man1 $(to)/share/man/man3
+	@install -m 755 target/bin/nvlist $(to)/bin
+	@install -m 644 include/nvram.h $(to)/include
+	@install -m 644 target/staticlib/libnvram_c.a $(to)/lib
+	@install -m 644 target/nvram.pc $(to)/lib/pkgconfig
+	@install -m 644 docs/man/nvlist.1 $(to)/share/man/man1
+	@install -m 644 docs/man/nvram.3 $(to)/share/man/man3
+
+.PHONY: help list test lib install bench fmt
