@@ -11,7 +11,7 @@ help:
 	@echo 'make lib                prove and write target/staticlib/libnvram_c.a, for C, C++ and Rust to link'
 	@echo 'make install            install header, archive, nvlist, nvram.pc and manual pages (PREFIX, DESTDIR)'
 	@echo 'make bench              time every call beside a plain Rust implementation (needs cargo and cc)'
-	@echo 'make fmt                lay out every source, definition and proof'
+	@echo 'make fmt                lay out every source, definition and proof, and the Rust of bindings/ and tests/'
 
 # A word for the shell, whatever it holds.
 quoted = '$(subst ','\'',$(1))'
@@ -35,6 +35,8 @@ bench: target/staticlib/libnvram_c.a
 
 fmt:
 	@rt fmt
+	@cargo fmt --all --manifest-path tests/Cargo.toml
+	@cargo fmt --all --manifest-path bindings/rust/Cargo.toml
 
 # What a proof depends on; the rules touch their targets, which the prover leaves as they are where nothing changed.
 sources := crates.txt $(shell find crates -type f ! -path '*/must-fail/*' ! -name '*.md' 2>/dev/null)
