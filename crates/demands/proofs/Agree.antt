@@ -20,13 +20,18 @@ use Rattle.pairs.proofs.ParseLaws.{Good as GoodPairs, area-read, read-room, byt
 use Rattle.pairs.proofs.StandsLaws.{stands-none}
 use Rattle.pairs.proofs.EntryLaws.{entriesOf}
 use Rattle.variables.specs.Edits.{areaBytes, setPair, removePair, normalizePairs, lookup}
-use Rattle.variables.specs.Calls.{Action, setTo, removal, readInto, lentBy, Call, named, set, remove, normalize, read, count, Reply, done, refused, Outcome, edited, callPairs, callArea}
-use Rattle.variables.proofs.EditLaws.{length-area, parse-area, good-set, good-remove, good-normalize, remove-room, bytes-set, bytes-remove, bytes-normalize, bytes-area, normalize-short, normalize-twice, normalize-set, normalize-remove}
-use Rattle.variables.proofs.CallLaws.{check-named, check-normalize, check-count, call-misnamed, call-parsed, set-short, set-done, remove-missing, remove-found, read-missing, read-short, read-done, normalize-done, count-done, split-lookup, split-room}
+use Rattle.variables.specs.Calls.{Action, setTo, removal, readInto, lentBy, Call, named, set, remove, normalize, read, count, Reply, done, refused}
+use Rattle.variables.specs.Calls.{Outcome, edited, callPairs, callArea}
+use Rattle.variables.proofs.EditLaws.{length-area, parse-area, good-set, good-remove, good-normalize, remove-room, bytes-set, bytes-remove}
+use Rattle.variables.proofs.EditLaws.{bytes-normalize, bytes-area, normalize-short, normalize-twice, normalize-set, normalize-remove}
+use Rattle.variables.proofs.CallLaws.{check-named, check-normalize, check-count, call-misnamed, call-parsed, set-short, set-done, remove-missing}
+use Rattle.variables.proofs.CallLaws.{remove-found, read-missing, read-short, read-done, normalize-done, count-done, split-lookup, split-room}
 use Rattle.nvram.specs.Calls.{Told, toldAt}
-use Rattle.demands.specs.Model.{Model, total, setEntry, dropEntry, newSizes, Value, valueOf, Stepped, says, denies, keeps, becomes, setStep, removeStep, readStep, actionStep, step, canonicalArea}
+use Rattle.demands.specs.Model.{Model, total, setEntry, dropEntry, newSizes, Value, valueOf, Stepped, says, denies, keeps, becomes, setStep}
+use Rattle.demands.specs.Model.{removeStep, readStep, actionStep, step, canonicalArea}
 use Rattle.demands.specs.Demands.{ActionBytes, CallBytes}
-use Rattle.demands.proofs.ModelLaws.{entries-set, entries-remove, entries-normalize, valueFor, value-entries, count-entries, total-entries, canonical-area}
+use Rattle.demands.proofs.ModelLaws.{entries-set, entries-remove, entries-normalize, valueFor, value-entries, count-entries, total-entries}
+use Rattle.demands.proofs.ModelLaws.{canonical-area}
 
 -- the model of an area that reads as these pairs
 abbrev pub modelOf : List ℕ → List Pair → Model
@@ -55,7 +60,8 @@ area-in-form area ps r c =
 -- ---- one step of the model
 
 module _ (m : Model) where
-  step-misnamed : (name : List ℕ) (action : Action) (at : ℕ) → nameCheck name ≡ Wrong at → step (named name action) m ≡ keeps (denies 11 0 (lentBy action)) m
+  step-misnamed : (name : List ℕ) (action : Action) (at : ℕ) → nameCheck name ≡ Wrong at
+      → step (named name action) m ≡ keeps (denies 11 0 (lentBy action)) m
   unfolding step
   step-misnamed name action at g = rw g
 
@@ -149,7 +155,8 @@ module _ (n : ℕ) (area : List ℕ) (ps : List Pair) (r : parse area ≡ parsed
         (λ f. agree-as (remove-missing name ps area f) (ap (λ (x : Value). removeStep x name m) (v ∙ ap valueFor f))
         (stay (remove name) (refused NoVariable) [] (denies 12 0 []) (λ q. clash (cc)) refl))
 
-    agree-read : (buffer : List ℕ) → Agree n (read name buffer) area ps (callPairs (read name buffer) ps area) (readStep (valueOf name (entriesOf ps)) buffer m)
+    agree-read : (buffer : List ℕ)
+        → Agree n (read name buffer) area ps (callPairs (read name buffer) ps area) (readStep (valueOf name (entriesOf ps)) buffer m)
     agree-read buffer =
         let v = value-entries name ps in
         split-lookup (lookup name ps)

@@ -37,7 +37,8 @@ use Rattle.variables.specs.Rules.{Holds}
 use Rattle.variables.specs.Calls.{setTo, readInto, set, read, callCheck, done, Outcome, refuse, callArea}
 use Rattle.variables.proofs.EditLaws.{length-area, parse-area, lookup-none, lookup-next, good-set, lookup-set}
 use Rattle.variables.proofs.LookupLaws.{found-exactly}
-use Rattle.variables.proofs.CallLaws.{check-named, split-parse, split-room, call-misnamed, call-faulty, call-parsed, set-short, set-done as set-outcome, read-done}
+use Rattle.variables.proofs.CallLaws.{check-named, split-parse, split-room, call-misnamed, call-faulty, call-parsed, set-short}
+use Rattle.variables.proofs.CallLaws.{set-done as set-outcome, read-done}
 use Rattle.nvram.specs.Common.{HasCommon, commonOf}
 use Rattle.nvram.specs.Calls.{Told, toldAt, Result, callImage}
 use Rattle.nvram.proofs.CommonLaws.{split-found, common-exactly, common-among, common-kept}
@@ -58,7 +59,8 @@ found-named name value (GoodPairs.more {p = p} {ps = ps} n v s g) e =
 abbrev valueTold : List ℕ → List ℕ → Told
 valueTold value buffer = record { code = 0; offset = 0; amount = length value; buffer = pasted buffer 0 value }
 
-read-found : (name value buffer area : List ℕ) (ps : List Pair) → parse area ≡ parsed ps → lookup name ps ≡ found value → length value ≤ length buffer
+read-found : (name value buffer area : List ℕ) (ps : List Pair) → parse area ≡ parsed ps → lookup name ps ≡ found value
+    → length value ≤ length buffer
     → callArea (read name buffer) area ≡ record { reply = done (length value); buffer = pasted buffer 0 value; area = area }
 read-found name value buffer area ps r f l =
     let g : NameRule name = found-named name value (area-read area ps r .good) f in

@@ -14,7 +14,8 @@ use Rattle.pairs.specs.Area.{Pair, pairsBytes}
 use Rattle.variables.specs.Edits.{areaBytes, canonicalPair, setPair, removePair, normalizePairs, Lookup, found, missing, lookup}
 use Rattle.pairs.specs.Rules.{Entry}
 use Rattle.pairs.proofs.ParseLaws.{pairs-none, length-pair, length-pairs, pair-front}
-use Rattle.variables.proofs.EditLaws.{area-is, set-none, set-first, set-next, remove-none, remove-first, remove-next, lookup-none, lookup-first, lookup-next, normalize-none, normalize-more}
+use Rattle.variables.proofs.EditLaws.{area-is, set-none, set-first, set-next, remove-none, remove-first, remove-next, lookup-none, lookup-first}
+use Rattle.variables.proofs.EditLaws.{lookup-next, normalize-none, normalize-more}
 use Rattle.pairs.proofs.EntryLaws.{entryOf, entriesOf}
 use Rattle.demands.specs.Model.{same, newEntry, total, setEntry, dropEntry, newSizes, Value, some, none, valueOf, canonicalBytes, canonicalArea}
 
@@ -113,7 +114,8 @@ unfolding canonicalBytes
 canonical-bytes [] = sym (ap pairsBytes normalize-none ∙ pairs-none)
 canonical-bytes (p ∷ ps) =
     let q : Pair = canonicalPair (p .name) (decode (p .stored)) in
-    ap (λ (l : List ℕ). p .name ++ 0x3D ∷ (encode (decode (p .stored)) ++ 0x00 ∷ l)) (canonical-bytes ps ∙ sym (append-nil (pairsBytes (normalizePairs ps))))
+    ap (λ (l : List ℕ). p .name ++ 0x3D ∷ (encode (decode (p .stored)) ++ 0x00 ∷ l))
+    (canonical-bytes ps ∙ sym (append-nil (pairsBytes (normalizePairs ps))))
     ∙ sym (pair-front q (normalizePairs ps) []) ∙ append-nil (pairsBytes (q ∷ normalizePairs ps)) ∙ ap pairsBytes (sym (normalize-more p ps))
 
 pub canonical-area : (n : ℕ) (ps : List Pair) → canonicalArea n (entriesOf ps) ≡ areaBytes n (normalizePairs ps)

@@ -51,7 +51,8 @@ abbrev held : List Entry
 held = record { name = 0x61 ∷ []; value = 0x31 ∷ []; size = 4 } ∷ []
 
 example-common : HasCommon E first
-unfolding commonOf findOf findBy firstMatch matches padded walk walkFrom stepAt allowedLength partitionOf pastOf validityAt validityOf headerAt nameAt sumFrom sameBytes
+unfolding commonOf findOf findBy firstMatch matches padded
+    walk walkFrom stepAt allowedLength partitionOf pastOf validityAt validityOf headerAt nameAt sumFrom sameBytes
 example-common = common-exactly E example-bytes first .0 refl
 
 example-formed : WellFormed held (areaAt E 0)

@@ -44,7 +44,8 @@ record Leads (p : Partition) (I : List ℕ) (ps : List Pair) (J : List ℕ) (m :
   normal : Normal → InForm (areaIn p J) pairs
   outside : OutsideKept I (p .offset) J
 
-leads-as : {p : Partition} {I J J′ : List ℕ} {ps : List Pair} {m m′ : Model} {N : Type 0} → J ≡ J′ → m ≡ m′ → Leads p I ps J′ m′ N → Leads p I ps J m N
+leads-as : {p : Partition} {I J J′ : List ℕ} {ps : List Pair} {m m′ : Model} {N : Type 0} → J ≡ J′ → m ≡ m′ → Leads p I ps J′ m′ N
+    → Leads p I ps J m N
 leads-as e f l = rw (e, f) l
 
 -- nothing was called
@@ -121,7 +122,8 @@ unfolding runImage run
 together-none p I ps h = record { told = refl; leads = leads-none p I ps h }
 
 -- a call and those after it; m is the model that the call leaves
-together-more : (p : Partition) (I : List ℕ) (ps : List Pair) (call : Call) (calls : List Call) (r : Result) (s : Stepped) (l : Leads p I ps (r .image) (s .model) (call ≡ normalize))
+together-more : (p : Partition) (I : List ℕ) (ps : List Pair) (call : Call) (calls : List Call) (r : Result) (s : Stepped)
+    (l : Leads p I ps (r .image) (s .model) (call ≡ normalize))
     → r .told ≡ s .told → Together p (r .image) (l .pairs) calls (runImage calls (r .image)) (run calls (modelOf (areaIn p (r .image)) (l .pairs)))
     → Together p I ps (call ∷ calls) (record { told = r .told ∷ runImage calls (r .image) .told; image = runImage calls (r .image) .image })
     (record { told = s .told ∷ run calls (s .model) .told; model = run calls (s .model) .model })

@@ -87,7 +87,8 @@ module _ (I : List ℕ) (bytes : AllBytes I) where
   row-seen b (Answers.thirteen {a = a} {n = n} {name = name} {value = value} h z l) =
       let m = met h in
       let k = set-size-exactly name value (m .list) n b .0 (rw (← m .entries) at z) in
-      m .told ∙ ap (seenOutcome I a) (set-short name value (m .list) (areaAt I a) (omega (arith, k, l))) ∙ refuse-seen I a (m .place) (set name value) NoRoom
+      m .told ∙ ap (seenOutcome I a) (set-short name value (m .list) (areaAt I a) (omega (arith, k, l)))
+      ∙ refuse-seen I a (m .place) (set name value) NoRoom
   row-seen b (Answers.fourteen {a = a} {name = name} {buffer = buffer} {value = value} h v l) =
       let m = met h in
       let e = found-exactly name value (m .list) .1 (rw (← m .entries) at v) in

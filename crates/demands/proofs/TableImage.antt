@@ -55,7 +55,8 @@ eleven-row normalize I at e = clash (cc (check-normalize))
 eleven-row count I at e = clash (cc (check-count))
 
 -- a refusal by the image or the caller's name, as it is seen
-refusal-seen : (call : Call) (I : List ℕ) (e : Error) (r : Result) → r ≡ refusedCall e call I → seenCall r ≡ refuses (variable call) I (codeOf e) (offsetOf e)
+refusal-seen : (call : Call) (I : List ℕ) (e : Error) (r : Result) → r ≡ refusedCall e call I
+    → seenCall r ≡ refuses (variable call) I (codeOf e) (offsetOf e)
 refusal-seen call I e r q = ap seenCall q
 
 pub misnamed-seen : (call : Call) (I : List ℕ) (at : ℕ) → callCheck call ≡ Wrong at → seen (variable call) I ≡ refuses (variable call) I 11 0

@@ -16,7 +16,8 @@ use Rattle.demands.specs.Table.{AreaBecomes, Holding}
 
 module _ (I : List ℕ) (p : Partition) (m : Among I p) where
   -- the image with an area of the same length in its place
-  pub pasted-becomes : (area′ : List ℕ) → length area′ ≡ length (areaOf I (At p)) → AreaBecomes I (p .offset) area′ (pasted I (p .offset + 16) area′)
+  pub pasted-becomes : (area′ : List ℕ) → length area′ ≡ length (areaOf I (At p))
+      → AreaBecomes I (p .offset) area′ (pasted I (p .offset + 16) area′)
   pasted-becomes area′ n =
       let J : List ℕ = pasted I (p .offset + 16) area′ in
       let k = pasted-kept I p m area′ n in

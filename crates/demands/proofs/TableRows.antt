@@ -37,7 +37,8 @@ use Rattle.demands.specs.Table.{WellNamed, by-name, AtPair, Answers}
 use Rattle.demands.specs.Library.{seen}
 use Rattle.demands.specs.Demands.{CallBytes, RequestBytes}
 use Rattle.demands.proofs.ModelLaws.{count-entries}
-use Rattle.demands.proofs.TableImage.{named-well, eleven-row, misnamed-seen, refused-call, missed-row, missed-common, check-row, partition-row, find-row, area-row}
+use Rattle.demands.proofs.TableImage.{named-well, eleven-row, misnamed-seen, refused-call, missed-row, missed-common, check-row, partition-row}
+use Rattle.demands.proofs.TableImage.{find-row, area-row}
 use Rattle.demands.proofs.TablePlaces.{pasted-holding}
 use Rattle.demands.proofs.TableSeen.{CommonAt, seenOutcome, common-bytes, edit-becomes, call-seen, refuse-seen, answer-seen}
 
@@ -135,7 +136,8 @@ module _ (I : List ℕ) (bytes : AllBytes I) where
               same-row (ap (seenOutcome I a) (read-short name ps (areaAt I a) buffer e k) ∙ refuse-seen I a w (read name buffer) ShortBuffer)
               (Answers.fourteen (common-end (read name buffer) n .1) (found-exactly name value ps .0 e) k)
 
-          go : (f : Lookup) → lookup name ps ≡ f → Answers I (variable (read name buffer)) (seenOutcome I a (callPairs (read name buffer) ps (areaAt I a)))
+          go : (f : Lookup) → lookup name ps ≡ f
+              → Answers I (variable (read name buffer)) (seenOutcome I a (callPairs (read name buffer) ps (areaAt I a)))
           go (found value) e = fits value e (decLe (length value) (length buffer))
           go missing e =
               same-row (ap (seenOutcome I a) (read-missing name ps (areaAt I a) buffer e) ∙ refuse-seen I a w (read name buffer) NoVariable)

@@ -1,21 +1,23 @@
 -- The examples of document 01 that are marked P, as one statement, E in literal bytes.
 use Prim.Native.Nat.{ℕ}
 use mathlib.Core.Path.{_≡_, refl}
+use mathlib.Core.Bool.{true, false}
 use mathlib.Core.List.{List, [], _∷_, _++_}
 use lib.ListN.{take, drop, replicate}
 use Rattle.lists.specs.Bytes.{sameBytes}
 use Rattle.lists.specs.Pasted.{pasted}
 use Rattle.header.specs.Checksum.{sumFrom, sumcheck}
-use Rattle.header.specs.Header.{headerAt, nameAt, validityOf, validityAt}
+use Rattle.header.specs.Header.{headerAt, nameAt, newHeader, validityOf, validityAt}
 use Rattle.partitions.specs.declared.Checked.the-variants.{Accepted, Refused}
 use Rattle.errors.specs.declared.HeaderFault.the-variants.{ZeroLength, PastEnd}
 use Rattle.errors.specs.declared.Error.the-variants.{ImageLength, BadHeader}
 use Rattle.partitions.specs.Walk.{allowedLength, partitionOf, pastOf, stepAt, walkFrom, walk}
 use Rattle.partitions.specs.Find.{checkedBy, checkOf, padded, matches, firstMatch, findBy, findOf, areaOf}
 use Rattle.partitions.specs.Examples.{E, commonCovered, freeCovered}
+use Rattle.names.specs.declared.NameCheck.the-variants.{Good, Wrong}
 use Rattle.names.specs.Name.{nameByte, nameCheckFrom, nameCheck}
 use Rattle.values.specs.Value.{runByte, run, decodeFrom, decode, mark, fullEscapes, restEscape, runBytes, encodeFrom, encode}
-use Rattle.pairs.specs.Scan.{storedName, scanName, scanValue, standAt}
+use Rattle.pairs.specs.Scan.{storedName, scanName, scanValue, pair, wrongName, standAt}
 use Rattle.pairs.specs.Area.{pairBytes, pairsBytes, stands, parseFrom, parse}
 use Rattle.variables.specs.Edits.{areaBytes, setPair, normalizePairs, lookup}
 use Rattle.variables.specs.Calls.{set, read, normalize, count, callCheck, setIn, callPairs, callArea}
@@ -34,6 +36,11 @@ holding area = take 16 E ++ (area ++ drop 32 E)
 abbrev six : List ℕ
 six = holding (0x61 ∷ 0x3D ∷ 0x31 ∷ 0x00 ∷ 0x62 ∷ 0x3D ∷ 0xFF ∷ 0x02 ∷ 0xFF ∷ 0x81 ∷ 0x00 ∷ replicate 5 0x00)
 
+-- E after `c` is set too: the ending 0x00 is the area's sixteenth byte
+abbrev seven : List ℕ
+seven =
+    holding (0x61 ∷ 0x3D ∷ 0x31 ∷ 0x00 ∷ 0x62 ∷ 0x3D ∷ 0xFF ∷ 0x02 ∷ 0xFF ∷ 0x81 ∷ 0x00 ∷ 0x63 ∷ 0x3D ∷ 0x31 ∷ 0x00 ∷ 0x00 ∷ [])
+
 -- example 9's area, with padding
 abbrev nine : List ℕ
 nine = holding (0x61 ∷ 0x3D ∷ 0xFF ∷ 0x01 ∷ 0xFF ∷ 0x01 ∷ 0x00 ∷ 0x00 ∷ replicate 8 0xAA)
@@ -51,7 +58,7 @@ pub record Examples : Type 0 where
   pub five-past : checkOf (0x70 ∷ 0xFD ∷ 0x00 ∷ 0x03 ∷ drop 4 (take 32 E)) ≡ Refused (BadHeader PastEnd 0)
   pub five-zero : checkOf (0x70 ∷ 0xFD ∷ 0x00 ∷ 0x00 ∷ drop 4 (take 32 E)) ≡ Refused (BadHeader ZeroLength 0)
   pub six-set : callImage (set (0x62 ∷ []) (0x00 ∷ 0x00 ∷ 0xFF ∷ [])) E ≡ record { told = told 0 0 0; image = six }
-  pub seven-fits : callImage (set (0x63 ∷ []) (0x31 ∷ [])) six .told ≡ told 0 0 0
+  pub seven-fits : callImage (set (0x63 ∷ []) (0x31 ∷ [])) six ≡ record { told = told 0 0 0; image = seven }
   pub seven-room : callImage (set (0x63 ∷ []) (0x31 ∷ 0x32 ∷ [])) six ≡ record { told = told 13 0 0; image = six }
   pub eight-127 : encode (replicate 127 0x00) ≡ 0xFF ∷ 0x7F ∷ []
   pub eight-128 : encode (replicate 128 0x00) ≡ 0xFF ∷ 0x7F ∷ 0xFF ∷ 0x01 ∷ []
@@ -61,13 +68,18 @@ pub record Examples : Type 0 where
   pub eight-empty : encode [] ≡ []
   pub nine-read : callImage (read (0x61 ∷ []) (0x05 ∷ 0x05 ∷ 0x05 ∷ [])) nine .told
       ≡ record { code = 0; offset = 0; amount = 2; buffer = 0x00 ∷ 0x00 ∷ 0x05 ∷ [] }
-  pub nine-normalized : callImage normalize nine .image ≡ holding (0x61 ∷ 0x3D ∷ 0xFF ∷ 0x02 ∷ 0x00 ∷ replicate 11 0x00)
-  pub ten-8 : callImage count (holding (0x61 ∷ 0x3D ∷ 0x31 ∷ 0x00 ∷ 0x41 ∷ 0x3D ∷ 0x32 ∷ 0x00 ∷ 0x00 ∷ replicate 7 0xAA)) .told ≡ told 8 20 0
+  pub nine-normalized : callImage normalize nine
+      ≡ record { told = told 0 0 0; image = holding (0x61 ∷ 0x3D ∷ 0xFF ∷ 0x02 ∷ 0x00 ∷ replicate 11 0x00) }
+  pub ten-8 : callImage count (holding (0x61 ∷ 0x3D ∷ 0x31 ∷ 0x00 ∷ 0x41 ∷ 0x3D ∷ 0x32 ∷ 0x00 ∷ 0x00 ∷ replicate 7 0xAA)) .told
+      ≡ told 8 20 0
   pub ten-9 : callImage count (holding (0x61 ∷ 0x3D ∷ 0xFF ∷ 0x80 ∷ replicate 12 0xAA)) .told ≡ told 9 19 0
   pub eleven : callImage count (holding (0x61 ∷ 0x3D ∷ replicate 13 0x78 ++ 0x00 ∷ [])) .told ≡ told 7 32 0
 
 pub examples : Examples
-unfolding callImage commonOf callArea callPairs setIn callCheck nameCheck nameCheckFrom nameByte parse parseFrom standAt storedName scanName scanValue stands sameBytes areaBytes setPair normalizePairs lookup pairsBytes pairBytes encode encodeFrom runBytes fullEscapes restEscape mark decode decodeFrom run runByte pasted checkOf checkedBy walk walkFrom stepAt allowedLength partitionOf pastOf validityAt validityOf headerAt nameAt sumFrom padded matches firstMatch findBy findOf areaOf
+unfolding callImage commonOf callArea callPairs setIn callCheck nameCheck nameCheckFrom nameByte parse parseFrom standAt
+    storedName scanName scanValue stands sameBytes areaBytes setPair normalizePairs lookup pairsBytes pairBytes encode encodeFrom
+    runBytes fullEscapes restEscape mark decode decodeFrom run runByte pasted checkOf checkedBy walk walkFrom stepAt allowedLength
+    partitionOf pastOf validityAt validityOf headerAt nameAt sumFrom padded matches firstMatch findBy findOf areaOf
 examples = record {
   one-2 = refl;
   one-3 = refl;
@@ -94,4 +106,28 @@ examples = record {
   ten-8 = refl;
   ten-9 = refl;
   eleven = refl;
+}
+
+-- the limits, each at its last allowed number and one step past it
+pub record Limits : Type 0 where
+  pub image : allowedLength 1_048_576 ≡ true
+  pub image-over : allowedLength 1_048_592 ≡ false
+  pub header : newHeader 0x70 (record { 0 = 65_535 }) (replicate 12 0x00) .allowed ≡ true
+  pub header-over : newHeader 0x70 (record { 0 = 65_536 }) (replicate 12 0x00) .allowed ≡ false
+  pub name : nameCheck (replicate 31 0x61) ≡ Good
+  pub name-over : nameCheck (replicate 32 0x61) ≡ Wrong 31
+  pub stored-name : standAt (replicate 31 0x61 ++ 0x3D ∷ 0x00 ∷ []) ≡ pair (replicate 31 0x61) [] []
+  pub stored-name-over : standAt (replicate 32 0x61 ++ 0x3D ∷ 0x00 ∷ []) ≡ wrongName 31
+
+pub limits : Limits
+unfolding allowedLength newHeader nameCheck nameCheckFrom nameByte standAt storedName scanName scanValue
+limits = record {
+  image = refl;
+  image-over = refl;
+  header = refl;
+  header-over = refl;
+  name = refl;
+  name-over = refl;
+  stored-name = refl;
+  stored-name-over = refl;
 }

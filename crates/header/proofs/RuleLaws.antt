@@ -47,9 +47,11 @@ module _ (image : List ℕ) (at : ℕ) where
     unfolding validityAt validityOf
     cut-read l e =
         let h = headerAt image at in
-        e ∙ cut-off b 0 0 (h .checksum) (sumcheck (coveredBytes h)) at room l ∙ (λ i. firstBroken (eb i) (h .checksum) (sumcheck (coveredBytes h)) at (er i))
+        e ∙ cut-off b 0 0 (h .checksum) (sumcheck (coveredBytes h)) at room l
+        ∙ (λ i. firstBroken (eb i) (h .checksum) (sumcheck (coveredBytes h)) at (er i))
 
-    pub whole-read : (s : ℕ) → s ≡ sumcheck (coveredBytes (headerAt image at)) → r ≡ firstBroken b (byteAt image at 1) s at room → r ≡ validityAt image at
+    pub whole-read : (s : ℕ) → s ≡ sumcheck (coveredBytes (headerAt image at)) → r ≡ firstBroken b (byteAt image at 1) s at room
+        → r ≡ validityAt image at
     unfolding validityAt validityOf
     whole-read s es e = e ∙ (λ i. firstBroken (eb i) (sym checksum-read i) (es i) at (er i))
 

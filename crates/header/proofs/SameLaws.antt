@@ -19,7 +19,8 @@ header-same I J a h = λ i. record {
   length = record { 0 = h 2 (omega arith) i * 256 + h 3 (omega arith) i };
   name =
       h 4 (omega arith) i ∷ h 5 (omega arith) i ∷ h 6 (omega arith) i ∷ h 7 (omega arith) i ∷ h 8 (omega arith) i ∷ h 9 (omega arith) i
-      ∷ h 10 (omega arith) i ∷ h 11 (omega arith) i ∷ h 12 (omega arith) i ∷ h 13 (omega arith) i ∷ h 14 (omega arith) i ∷ h 15 (omega arith) i ∷ [];
+      ∷ h 10 (omega arith) i ∷ h 11 (omega arith) i ∷ h 12 (omega arith) i ∷ h 13 (omega arith) i
+      ∷ h 14 (omega arith) i ∷ h 15 (omega arith) i ∷ [];
 }
 
 module _ (I J : List ℕ) where

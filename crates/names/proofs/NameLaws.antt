@@ -167,7 +167,8 @@ data Breaks (j : ℕ) (bs : List ℕ) (i : ℕ) : Type 0 where
   none : j ≡ 0 → bs ≡ [] → i ≡ 0 → Breaks j bs i
   some : (k : ℕ) → j + k ≡ i → WrongAt j bs k → Breaks j bs i
 
-one-more : (b : ℕ) (bs : List ℕ) (k : ℕ) → NameByte b → ((m : ℕ) → m < k → NameByte (getD bs m 0)) → (m : ℕ) → m < suc k → NameByte (getD (b ∷ bs) m 0)
+one-more : (b : ℕ) (bs : List ℕ) (k : ℕ) → NameByte b → ((m : ℕ) → m < k → NameByte (getD bs m 0))
+    → (m : ℕ) → m < suc k → NameByte (getD (b ∷ bs) m 0)
 one-more b bs k n f zero h = n
 one-more b bs k n f (suc m) h = f m (omega arith)
 

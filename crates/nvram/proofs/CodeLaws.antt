@@ -145,12 +145,13 @@ module _ (I : List ℕ) (s e : ℕ) (k : AreaAt I s e) where
       let z = ap replyOffset q in
       omega (arith, k .order, k .inside)
 
-  pub edit-answer : {call : Call} → Bufferless call → (a r : Edited) → editReply a ≡ callArea call given .reply → editTold r ≡ toldAt s (editReply a) []
-      → editTold r ≡ callImage call I .told
+  pub edit-answer : {call : Call} → Bufferless call → (a r : Edited) → editReply a ≡ callArea call given .reply
+      → editTold r ≡ toldAt s (editReply a) [] → editTold r ≡ callImage call I .told
   edit-answer {call} u a r q m =
       m ∙ ((λ i. toldAt s (q i) (sym (buffer-none u given) i)) ∙ answer-at call I s e k)
 
-  pub edit-image : (call : Call) (last : List ℕ) → length last ≡ e - s → last ≡ callArea call given .area → putMid s (e - s) I last ≡ callImage call I .image
+  pub edit-image : (call : Call) (last : List ℕ) → length last ≡ e - s → last ≡ callArea call given .area
+      → putMid s (e - s) I last ≡ callImage call I .image
   edit-image call last n q = part-pasted I s e last (k .order) (k .inside) n ∙ (ap (pasted I s) q ∙ image-at call I s e k)
 
   pub count-done : (a : Counted) (n : ℕ) → countReply a ≡ callArea count given .reply → a ≡ Counted.Variables n

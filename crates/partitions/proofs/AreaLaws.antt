@@ -54,7 +54,8 @@ unfolding walkFrom
 from-inside image zero at = tt
 from-inside image (suc n) at = go (stepAt image at) (view image at) (from-inside image n (pastOf image at))
   where
-    go : (s : Step) → View image at s → WalkInside image (walkFrom n image (pastOf image at)) → WalkInside image (onStep s (λ past. walkFrom n image past))
+    go : (s : Step) → View image at s → WalkInside image (walkFrom n image (pastOf image at))
+        → WalkInside image (onStep s (λ past. walkFrom n image past))
     go End (ends l) ih = tt
     go (Next p c) (goes l e) ih = first-inside image (partitionOf image at) (walkFrom n image (pastOf image at)) (valid-inside image at l e) ih
     go (Broken x) (breaks l e) ih = tt
@@ -73,7 +74,8 @@ pub record Among (image : List ℕ) (p : Partition) : Type 0 where
   pub after : List Partition
   pub walks : walk image ≡ covered (before ++ p ∷ after)
 
-each-inside : (image : List ℕ) (before : List Partition) (p : Partition) (after : List Partition) → EachInside image (before ++ p ∷ after) → Inside image p
+each-inside : (image : List ℕ) (before : List Partition) (p : Partition) (after : List Partition)
+    → EachInside image (before ++ p ∷ after) → Inside image p
 each-inside image [] p after i = i .0
 each-inside image (q ∷ before) p after i = each-inside image before p after (i .1)
 

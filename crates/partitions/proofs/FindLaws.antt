@@ -45,9 +45,11 @@ pub index-start : (image : List ℕ) → allowedLength (length image) ≡ true �
 unfolding indexOf
 index-start image a n = index-on n (rest image 0) ∙ ap (indexBy n) (sym (walk-rest image a))
 
-pub seek-here : (best : Found) (n : ℕ) → n ≡ 0 → (p : Partition) (ps : List Partition) → seekIndex best n (p ∷ ps) ≡ seekIndex (keepFirst best true p) n ps
+pub seek-here : (best : Found) (n : ℕ) → n ≡ 0 → (p : Partition) (ps : List Partition)
+    → seekIndex best n (p ∷ ps) ≡ seekIndex (keepFirst best true p) n ps
 seek-here best n z p ps = rw z
 
-pub seek-later : (best : Found) (n : ℕ) → (n ≡ 0 → ⊥) → (p : Partition) (ps : List Partition) → seekIndex best n (p ∷ ps) ≡ seekIndex best (n - 1) ps
+pub seek-later : (best : Found) (n : ℕ) → (n ≡ 0 → ⊥) → (p : Partition) (ps : List Partition)
+    → seekIndex best n (p ∷ ps) ≡ seekIndex best (n - 1) ps
 seek-later best zero z p ps = absurd (z refl)
 seek-later best (suc n) z p ps = ap (λ (k : ℕ). seekIndex best k ps) (omega arith)

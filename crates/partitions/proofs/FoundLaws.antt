@@ -88,8 +88,8 @@ module _ (image : List ℕ) (signature : ℕ) (name : List ℕ) where
           (λ t. rw t (match-later p ps (λ n. clash (cc (named-matches image signature name (p .offset) n))) (firstMatch image signature name ps) ih))
 
   -- and the other way round
-  match-first : (before : List Partition) (p : Partition) (after : List Partition) → NoneNamed image signature name before → Named image signature name (p .offset)
-      → firstMatch image signature name (before ++ p ∷ after) ≡ At p
+  match-first : (before : List Partition) (p : Partition) (after : List Partition) → NoneNamed image signature name before
+      → Named image signature name (p .offset) → firstMatch image signature name (before ++ p ∷ after) ≡ At p
   unfolding firstMatch
   match-first [] p after u n = rw (named-matches image signature name (p .offset) n)
   match-first (q ∷ before) p after u n = rw (not-matches image signature name (q .offset) (u .0)) (match-first before p after (u .1) n)
@@ -121,22 +121,26 @@ module _ (image : List ℕ) (signature : ℕ) (name : List ℕ) where
         there (broken x) (rejects r) e = clash (cc)
 
     -- it refuses as the check does, or by code 6 exactly when the image is covered and no partition matches
-    pub find-refuses : (e : Error) → (findOf image signature name ≡ Refused e) ↔ (Rejected image e ⊎ ((e ≡ NoPartition) × NotNamed image signature name))
+    pub find-refuses : (e : Error)
+        → (findOf image signature name ≡ Refused e) ↔ (Rejected image e ⊎ ((e ≡ NoPartition) × NotNamed image signature name))
     unfolding findOf findBy
     find-refuses e = (there (walk image) (walked image bytes), back)
       where
-        of-match : (ps : List Partition) → Accepted image ps → (f : Found) → Match ps f → f ≡ Refused e → (e ≡ NoPartition) × NotNamed image signature name
+        of-match : (ps : List Partition) → Accepted image ps → (f : Found) → Match ps f → f ≡ Refused e
+            → (e ≡ NoPartition) × NotNamed image signature name
         of-match ps a (At r) (found s) q = clash (cc)
         of-match ps a (Refused x) (missing n) q = (cc, record { all = ps; accepted = a; unnamed = n })
 
-        there : (w : Walk) → Walked image bytes w → findBy image signature name w ≡ Refused e → Rejected image e ⊎ ((e ≡ NoPartition) × NotNamed image signature name)
+        there : (w : Walk) → Walked image bytes w → findBy image signature name w ≡ Refused e
+            → Rejected image e ⊎ ((e ≡ NoPartition) × NotNamed image signature name)
         there (covered ps) (accepts a) q = inr (of-match ps a (firstMatch image signature name ps) (match ps) q)
         there (broken x) (rejects r) q = let p : x ≡ e = cc in inl (rw p at r)
 
         back : Rejected image e ⊎ ((e ≡ NoPartition) × NotNamed image signature name) → findBy image signature name (walk image) ≡ Refused e
         back (inl r) = ap (findBy image signature name) (rejected-exactly image bytes e .1 r)
         back (inr n) =
-            ap (findBy image signature name) (accepted-exactly image bytes _ .1 (n .1 .accepted)) ∙ match-none (n .1 .all) (n .1 .unnamed) ∙ ap Refused (sym (n .0))
+            ap (findBy image signature name) (accepted-exactly image bytes _ .1 (n .1 .accepted))
+            ∙ match-none (n .1 .all) (n .1 .unnamed) ∙ ap Refused (sym (n .0))
 
 -- the partition of an index, by the rules
 record Place (all : List Partition) (n : ℕ) (p : Partition) : Type 0 where

@@ -68,20 +68,22 @@ module _ (I J : List ℕ) (l : length I ≡ length J) where
   HeadersSame [] = Unit {0}
   HeadersSame (q ∷ qs) = (headerAt I (q .offset) ≡ headerAt J (q .offset)) × HeadersSame qs
 
-  first-same : (signature : ℕ) (name : List ℕ) (ps : List Partition) → HeadersSame ps → firstMatch I signature name ps ≡ firstMatch J signature name ps
+  first-same : (signature : ℕ) (name : List ℕ) (ps : List Partition) → HeadersSame ps
+      → firstMatch I signature name ps ≡ firstMatch J signature name ps
   unfolding firstMatch
   first-same signature name [] h = refl
   first-same signature name (q ∷ qs) h = λ i. cond (match-same signature name (q .offset) (h .0) i) (At q) (first-same signature name qs (h .1) i)
 
-  first-covered : (q : Partition) (w : Walk) (ps : List Partition) → first q w ≡ covered ps → (qs : List Partition) × (w ≡ covered qs) × (ps ≡ q ∷ qs)
+  first-covered : (q : Partition) (w : Walk) (ps : List Partition) → first q w ≡ covered ps
+      → (qs : List Partition) × (w ≡ covered qs) × (ps ≡ q ∷ qs)
   first-covered q (covered qs) ps e = (qs, refl, cc)
   first-covered q (broken x) ps e = clash (cc)
 
   none-same : (ps : List Partition) → covered [] ≡ covered ps → HeadersSame ps
   none-same ps e = let q : ps ≡ [] = cc in rw q tt
 
-  headers-after : (low : ℕ) → ((b : ℕ) → low ≤ b → headerAt I b ≡ headerAt J b) → (n a : ℕ) (ps : List Partition) → low ≤ a → walkFrom n I a ≡ covered ps
-      → HeadersSame ps
+  headers-after : (low : ℕ) → ((b : ℕ) → low ≤ b → headerAt I b ≡ headerAt J b) → (n a : ℕ) (ps : List Partition) → low ≤ a
+      → walkFrom n I a ≡ covered ps → HeadersSame ps
   unfolding walkFrom partitionOf
   headers-after low e zero a ps h w = clash (cc)
   headers-after low e (suc n) a ps h w = go (stepAt I a) (view I a) w (headers-after low e n (pastOf I a))
@@ -145,7 +147,8 @@ module _ (I J : List ℕ) (l : length I ≡ length J) where
       both zero a before after e = clash (cc)
       both (suc n) a [] after e = go (stepAt I a) (view I a) refl e
         where
-          go : (s : Step) → View I a s → stepAt I a ≡ s → onStep s (λ past. walkFrom n I past) ≡ covered (p ∷ after) → Both (suc n) a (p ∷ after)
+          go : (s : Step) → View I a s → stepAt I a ≡ s → onStep s (λ past. walkFrom n I past) ≡ covered (p ∷ after)
+              → Both (suc n) a (p ∷ after)
           go End (ends z) s w = clash (cc)
           go (Next r c) (goes z v) s w =
               let k = first-covered (partitionOf I a) (walkFrom n I (pastOf I a)) (p ∷ after) w in

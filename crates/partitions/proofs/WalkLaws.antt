@@ -52,7 +52,8 @@ fuel image (suc n) zero at hn hm = absurd (omega arith)
 fuel image (suc n) (suc m) at hn hm = go (stepAt image at) (view image at) (fuel image n m (pastOf image at))
   where
     go : (s : Step) → View image at s
-        → (length image - pastOf image at < n → length image - pastOf image at < m → walkFrom n image (pastOf image at) ≡ walkFrom m image (pastOf image at))
+        → (length image - pastOf image at < n → length image - pastOf image at < m
+        → walkFrom n image (pastOf image at) ≡ walkFrom m image (pastOf image at))
         → onStep s (λ past. walkFrom n image past) ≡ onStep s (λ past. walkFrom m image past)
     go End (ends l) ih = refl
     go (Next p c) (goes l e) ih =
@@ -116,13 +117,15 @@ on-first f h g p e (covered ps) = sym (e ps)
 on-first f h g p e (broken x) = refl
 
 -- a loop over the walk: f says what the turns so far make of the partitions that are left
-module _ {R : Type 0} (image : List ℕ) (at : ℕ) (f : List Partition → R) (g : Error → R) (answer : R) (inv : onWalk f g (rest image at) ≡ answer) where
-  pub loop-next : (p : Partition) (c : Cursor) → stepAt image at ≡ Next p c → (h : List Partition → R) → ((ps : List Partition) → f (p ∷ ps) ≡ h ps)
-      → onWalk h g (rest image (c .at)) ≡ answer
-  loop-next p c e h same = on-first f h g p same (rest image (c .at)) ∙ ap (onWalk f g) (sym (rest-next image at p c e)) ∙ inv
+module _ {R : Type 0} (image : List ℕ) (at : ℕ) (f : List Partition → R) (g : Error → R) (answer : R)
+    (inv : onWalk f g (rest image at) ≡ answer)
+  where
+    pub loop-next : (p : Partition) (c : Cursor) → stepAt image at ≡ Next p c → (h : List Partition → R)
+        → ((ps : List Partition) → f (p ∷ ps) ≡ h ps) → onWalk h g (rest image (c .at)) ≡ answer
+    loop-next p c e h same = on-first f h g p same (rest image (c .at)) ∙ ap (onWalk f g) (sym (rest-next image at p c e)) ∙ inv
 
-  pub loop-end : stepAt image at ≡ End → f [] ≡ answer
-  loop-end e = ap (onWalk f g) (sym (rest-end image at e)) ∙ inv
+    pub loop-end : stepAt image at ≡ End → f [] ≡ answer
+    loop-end e = ap (onWalk f g) (sym (rest-end image at e)) ∙ inv
 
-  pub loop-broken : (x : Error) → stepAt image at ≡ Broken x → g x ≡ answer
-  loop-broken x e = ap (onWalk f g) (sym (rest-broken image at x e)) ∙ inv
+    pub loop-broken : (x : Error) → stepAt image at ≡ Broken x → g x ≡ answer
+    loop-broken x e = ap (onWalk f g) (sym (rest-broken image at x e)) ∙ inv

@@ -11,7 +11,6 @@ use Rattle.header.specs.Header.{byteAt, nameAt}
 use Rattle.header.specs.Rules.{blocksAt, Sound, Breaks}
 use Rattle.partitions.specs.declared.Partition.{Partition}
 use Rattle.partitions.specs.declared.StepAnswer.{StepAnswer}
-use Rattle.partitions.specs.Answers.{noStep}
 
 -- an image's length is a multiple of 16, from 16 to 1,048,576 bytes
 pub record LengthRule (n : ℕ) : Type 0 where
@@ -104,8 +103,13 @@ pub data StepAnswers (image : List ℕ) (at : ℕ) : StepAnswer → Type 0 where
   shows : Sound image at
       → StepAnswers image at
       (record { code = 0; offset = 0; header = at; blocks = blocksAt image at; signature = byteAt image at 0; next = pastAt image at })
-  ends : length image ≤ at → StepAnswers image at (noStep 0 0)
-  step-two : at < length image → Breaks image at ZeroLength → StepAnswers image at (noStep 2 at)
-  step-three : at < length image → Breaks image at PastEnd → StepAnswers image at (noStep 3 at)
-  step-four : at < length image → Breaks image at Checksum → StepAnswers image at (noStep 4 at)
-  step-five : at < length image → Breaks image at ZeroChecksum → StepAnswers image at (noStep 5 at)
+  ends : length image ≤ at
+      → StepAnswers image at (record { code = 0; offset = 0; header = 0; blocks = 0; signature = 0; next = 0 })
+  step-two : at < length image → Breaks image at ZeroLength
+      → StepAnswers image at (record { code = 2; offset = at; header = 0; blocks = 0; signature = 0; next = 0 })
+  step-three : at < length image → Breaks image at PastEnd
+      → StepAnswers image at (record { code = 3; offset = at; header = 0; blocks = 0; signature = 0; next = 0 })
+  step-four : at < length image → Breaks image at Checksum
+      → StepAnswers image at (record { code = 4; offset = at; header = 0; blocks = 0; signature = 0; next = 0 })
+  step-five : at < length image → Breaks image at ZeroChecksum
+      → StepAnswers image at (record { code = 5; offset = at; header = 0; blocks = 0; signature = 0; next = 0 })

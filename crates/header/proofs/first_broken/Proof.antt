@@ -23,21 +23,24 @@ returns-3 c =
     let f = c .before in
     let b = f .before .before in
     let a = b .before .before .before .args in
-    checksum-differs (a .blocks) (a .stored) (a .computed) (a .at) (a .room) (b .before .if1 .left) (b .bytes .result) (b .bytes .ensures) (f .if2 .left) (c .if3 .taken)
+    checksum-differs (a .blocks) (a .stored) (a .computed) (a .at) (a .room) (b .before .if1 .left) (b .bytes .result) (b .bytes .ensures)
+    (f .if2 .left) (c .if3 .taken)
 
 returns-4 : tie.Need-returns-4
 returns-4 c =
     let f = c .before .before in
     let b = f .before .before in
     let a = b .before .before .before .args in
-    checksum-zero (a .blocks) (a .stored) (a .computed) (a .at) (a .room) (b .before .if1 .left) (b .bytes .result) (b .bytes .ensures) (f .if2 .left) (c .before .if3 .left) (c .if4 .taken)
+    checksum-zero (a .blocks) (a .stored) (a .computed) (a .at) (a .room) (b .before .if1 .left) (b .bytes .result) (b .bytes .ensures)
+    (f .if2 .left) (c .before .if3 .left) (c .if4 .taken)
 
 returns-5 : tie.Need-returns-5
 returns-5 c =
     let f = c .before .before in
     let b = f .before .before in
     let a = b .before .before .before .args in
-    no-rule-broken (a .blocks) (a .stored) (a .computed) (a .at) (a .room) (b .before .if1 .left) (b .bytes .result) (b .bytes .ensures) (f .if2 .left) (c .before .if3 .left) (c .if4 .left)
+    no-rule-broken (a .blocks) (a .stored) (a .computed) (a .at) (a .room) (b .before .if1 .left) (b .bytes .result) (b .bytes .ensures)
+    (f .if2 .left) (c .before .if3 .left) (c .if4 .left)
 
 pub first-broken-spec : {M : Type 1} → statement M
 first-broken-spec = tie.close (tie.spec returns bytes-requires returns-2 returns-3 returns-4 returns-5)

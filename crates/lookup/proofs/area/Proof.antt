@@ -10,7 +10,8 @@ use Rattle.lookup.proofs.area.Statement.{statement}
 use Rattle.lookup.proofs.area.Tie as tie
 
 inside : (b : tie.After-bytes) → (16 ≤ b .bytes .result .0)
-    × (b .before .before .found .given .0 .0 .offset + b .bytes .result .0 ≤ length (now (b .before .before .before .before .before .before .before .args .image)))
+    × (b .before .before .found .given .0 .0 .offset + b .bytes .result .0
+    ≤ length (now (b .before .before .before .before .before .before .before .args .image)))
 inside b =
     let g = b .before .before .found .given in
     let f = b .before .before .before .before in
@@ -71,7 +72,8 @@ returns-2 c =
     let g = k .before .before .found2 .given in
     let f = k .before .before .before .before in
     let a = f .before .before .before .args in
-    let t = told-refused (now (a .image)) (a .signature) (now (a .name)) (f .find .result) (f .find .ensures) (g .0 .0) (g .1) (k .code .result) (o .offset .result)
+    let t = told-refused (now (a .image)) (a .signature) (now (a .name)) (f .find .result) (f .find .ensures) (g .0 .0) (g .1)
+    (k .code .result) (o .offset .result)
     (k .code .ensures) (o .offset .ensures) in
     (no-area (now (a .image)) (a .signature) (now (a .name)) (f .find .result) (f .find .ensures) (g .0 .0) (g .1), (t .0, t .1))
 

@@ -20,7 +20,8 @@ use Rattle.lookup.proofs.find.Statement.{statement}
 use Rattle.lookup.proofs.find.Tie as tie
 
 abbrev Inv-loop : tie.InvT-loop
-Inv-loop image signature name cursor₀ best₀ cursor best = onWalk (seekName image signature name best) Refused (rest image (cursor .at)) ≡ findOf image signature name
+Inv-loop image signature name cursor₀ best₀ cursor best =
+    onWalk (seekName image signature name best) Refused (rest image (cursor .at)) ≡ findOf image signature name
 
 abbrev μ-loop : tie.MeasureT-loop
 μ-loop image signature name cursor₀ best₀ cursor best = length image - cursor .at
@@ -56,7 +57,10 @@ loop-holds c =
     let k = c .before .before in
     let a = k .before .before .before .args in
     let image = now (a .image) in
-    subst (λ (s : Cursor). onWalk (seekName image (a .signature) (now (a .name)) (Refused NoPartition)) Refused (rest image (s .at)) ≡ findOf image (a .signature) (now (a .name))) (sym (c .start .ensures))
+    let name = now (a .name) in
+    subst
+    (λ (s : Cursor). onWalk (seekName image (a .signature) name (Refused NoPartition)) Refused (rest image (s .at)) ≡ findOf image (a .signature) name)
+    (sym (c .start .ensures))
     (name-start image (a .signature) (now (a .name)) (sym (k .allowed-length .ensures) ∙ not-false _ (c .before .if1 .left)))
 
 step-requires : tie.Need-step-requires Inv-loop μ-loop

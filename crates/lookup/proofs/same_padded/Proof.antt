@@ -34,7 +34,8 @@ returns-2 c =
     let b = c .before in
     let l = b .before .before .before in
     let a = l .before .before .before .before .args in
-    agree-differs (now (a .stored)) (now (a .name)) (omega arith) (l .loop .i) (l .loop .inv .2) (omega arith) (b .padded-byte .result) (b .padded-byte .ensures) (c .if2 .taken)
+    agree-differs (now (a .stored)) (now (a .name)) (omega arith) (l .loop .i) (l .loop .inv .2) (omega arith)
+    (b .padded-byte .result) (b .padded-byte .ensures) (c .if2 .taken)
 
 add-i : tie.Need-add-i Inv-loop μ-loop
 add-i c = search needs
@@ -47,7 +48,9 @@ loop-again c =
     let b = c .before in
     let l = b .before .before .before in
     let a = l .before .before .before .before .args in
-    (refl, omega arith, agree-next (now (a .stored)) (now (a .name)) (omega arith) (l .loop .i) (l .loop .inv .2) (omega arith) (b .padded-byte .result) (b .padded-byte .ensures) (c .if2 .left))
+    let n = agree-next (now (a .stored)) (now (a .name)) (omega arith) (l .loop .i) (l .loop .inv .2) (omega arith)
+    (b .padded-byte .result) (b .padded-byte .ensures) (c .if2 .left) in
+    (refl, omega arith, n)
 
 returns-3 : tie.Need-returns-3 Inv-loop μ-loop
 returns-3 c =

@@ -9,8 +9,10 @@ use Rattle.nvram.proofs.common_area.Statement.{statement}
 use Rattle.nvram.proofs.common_area.Tie as tie
 
 -- the partition that was found stands in the image
-inside : (b : tie.After-bytes) → (16 ≤ b .bytes .result .0)
-    × (b .before .before .p .given .0 .0 .offset + b .bytes .result .0 ≤ length (now (b .before .before .before .before .before .before .before .args .image)))
+inside : (b : tie.After-bytes)
+    → (16 ≤ b .bytes .result .0)
+    × (b .before .before .p .given .0 .0 .offset + b .bytes .result .0
+    ≤ length (now (b .before .before .before .before .before .before .before .args .image)))
 inside b =
     let g = b .before .before .p .given in
     let f = b .before .before .before .before in

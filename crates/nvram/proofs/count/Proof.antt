@@ -12,8 +12,11 @@ use Rattle.nvram.proofs.moved_error.Reads as moved-error-reads
 use Rattle.variables.proofs.count.Reads as count-reads
 
 -- where the variable area stands
-area : (c : tie.After-known-told) → AreaAt (now (c .before .before .before .before .before .args .image)) (c .before .start .given .0 .0) (c .before .start .given .0 .1 .0)
-area c = span-at (now (c .before .before .before .before .before .args .image)) (c .before .before .before .common-area .result) (c .before .before .before .common-area .ensures) _ _ (c .before .start .given .1)
+area : (c : tie.After-known-told)
+    → AreaAt (now (c .before .before .before .before .before .args .image)) (c .before .start .given .0 .0) (c .before .start .given .0 .1 .0)
+area c =
+    let f = c .before .before .before in
+    span-at (now (f .before .before .args .image)) (f .common-area .result) (f .common-area .ensures) _ _ (c .before .start .given .1)
 
 common-area-requires : tie.Need-common-area-requires
 common-area-requires c κs = search needs
@@ -41,20 +44,27 @@ enum-known-e c = search needs
 
 moved-error-requires : tie.Need-moved-error-requires
 moved-error-requires c κs =
-    omega (arith, count-offset _ _ _ (area (c .before .before .before .before .before)) (c .before .before .before .count .result) _ (c .before .before .before .count .ensures) (c .before .e .given .1))
+    let k = c .before .before .before in
+    omega (arith, count-offset _ _ _ (area (k .before .before)) (k .count .result) _ (k .count .ensures) (c .before .e .given .1))
 
 enum-known-e-2 : tie.Need-enum-known-e-2
 enum-known-e-2 c = search needs
 
 returns : tie.Need-returns
-returns c = count-done _ _ _ (area (c .before .before .before .before .before)) (c .before .before .before .count .result) _ (c .before .before .before .count .ensures) (c .before .n .given .1)
+returns c =
+    let k = c .before .before .before in
+    count-done _ _ _ (area (k .before .before)) (k .count .result) _ (k .count .ensures) (c .before .n .given .1)
 
 returns-2 : tie.Need-returns-2
 returns-2 c =
-    count-moved _ _ _ (area (c .before .before .before .before .before .before)) (c .before .before .before .before .count .result) _ _ (c .before .before .before .before .count .ensures) (c .before .before .e .given .1) (c .moved-error .ensures)
+    let g = c .before .before in
+    let k = g .before .before in
+    count-moved _ _ _ (area (k .before .before)) (k .count .result) _ _ (k .count .ensures) (g .e .given .1) (c .moved-error .ensures)
 
 returns-3 : tie.Need-returns-3
-returns-3 c = count-not _ _ (span-not _ (c .before .before .before .common-area .result) (c .before .before .before .common-area .ensures) _ (c .before .e2 .given .1))
+returns-3 c =
+    let f = c .before .before .before in
+    count-not _ _ (span-not _ (f .common-area .result) (f .common-area .ensures) _ (c .before .e2 .given .1))
 
 pub count-spec : {M : Type 1} → statement M
 count-spec =

@@ -16,7 +16,8 @@ enum-known-answer c = search needs
 
 moved-error-requires : tie.Need-moved-error-requires
 moved-error-requires c κs =
-    omega (arith, edit-offset (c .before .before .before .args .by) (c .before .before .before .args .answer) _ (c .before .answer .given .1), c .before .before .before .pre)
+    let s = c .before .before .before in
+    omega (arith, edit-offset (s .args .by) (s .args .answer) _ (c .before .answer .given .1), s .pre)
 
 returns : tie.Need-returns
 returns c = edit-done (c .before .before .args .by) (c .before .before .args .answer) (c .enum-told .given .1)

@@ -13,8 +13,11 @@ use Rattle.nvram.proofs.moved_edit.Reads as moved-edit-reads
 use Rattle.normalization.proofs.normalize.Reads as normalize-reads
 
 -- where the variable area stands
-area : (c : tie.After-known-told) → AreaAt (now (c .before .before .before .before .before .before .args .image)) (c .before .start .given .0 .0) (c .before .start .given .0 .1 .0)
-area c = span-at (now (c .before .before .before .before .before .before .args .image)) (c .before .before .before .common-area .result) (c .before .before .before .common-area .ensures) _ _ (c .before .start .given .1)
+area : (c : tie.After-known-told)
+    → AreaAt (now (c .before .before .before .before .before .before .args .image)) (c .before .start .given .0 .0) (c .before .start .given .0 .1 .0)
+area c =
+    let f = c .before .before .before in
+    span-at (now (f .before .before .before .args .image)) (f .common-area .result) (f .common-area .ensures) _ _ (c .before .start .given .1)
 
 common-area-requires : tie.Need-common-area-requires
 common-area-requires c κs = search needs
@@ -45,10 +48,12 @@ same-length : tie.Need-same-length
 same-length c = search needs
 
 returns : tie.Need-returns
-returns c = (
-  edit-answer _ _ _ (area (c .before .before .before .before .before)) a-normalize (c .before .before .before .normalize .result) (c .moved-edit .result) (c .before .before .before .normalize .ensures .0) (c .moved-edit .ensures),
-  edit-image _ _ _ (area (c .before .before .before .before .before)) _ _ (omega arith) (c .before .before .before .normalize .ensures .1),
-)
+returns c =
+    let k = c .before .before .before in
+    let w = area (k .before .before) in (
+      edit-answer _ _ _ w a-normalize (k .normalize .result) (c .moved-edit .result) (k .normalize .ensures .0) (c .moved-edit .ensures),
+      edit-image _ _ _ w _ _ (omega arith) (k .normalize .ensures .1),
+    )
 
 same-length-2 : tie.Need-same-length-2
 same-length-2 c = search needs

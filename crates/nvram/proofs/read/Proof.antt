@@ -13,8 +13,11 @@ use Rattle.nvram.proofs.name_first.Reads as name-first-reads
 use Rattle.variables.proofs.read.Reads as read-reads
 
 -- where the variable area stands
-area : (c : tie.After-known-told) → AreaAt (now (c .before .before .before .before .before .before .before .args .image)) (c .before .start .given .0 .0) (c .before .start .given .0 .1 .0)
-area c = span-at (now (c .before .before .before .before .before .before .before .args .image)) (c .before .before .before .common-area .result) (c .before .before .before .common-area .ensures) _ _ (c .before .start .given .1)
+area : (c : tie.After-known-told)
+    → AreaAt (now (c .before .before .before .before .before .before .before .args .image)) (c .before .start .given .0 .0) (c .before .start .given .0 .1 .0)
+area c =
+    let f = c .before .before .before in
+    span-at (now (f .before .before .before .before .args .image)) (f .common-area .result) (f .common-area .ensures) _ _ (c .before .start .given .1)
 
 common-area-requires : tie.Need-common-area-requires
 common-area-requires c κs = search needs
@@ -42,7 +45,8 @@ enum-known-e c = search needs
 
 moved-error-requires : tie.Need-moved-error-requires
 moved-error-requires c κs =
-    omega (arith, read-offset _ _ _ (area (c .before .before .before .before .before .before .before .before)) _ _ (c .before .before .before .before .before .read .result) (c .before .before .before .before .before .read .ensures .0) _ (c .before .e .given .1))
+    let k = c .before .before .before .before .before in
+    omega (arith, read-offset _ _ _ (area (k .before .before .before)) _ _ (k .read .result) (k .read .ensures .0) _ (c .before .e .given .1))
 
 enum-known-e-2 : tie.Need-enum-known-e-2
 enum-known-e-2 c = search needs
@@ -55,17 +59,24 @@ same-length c = search needs
 
 returns : tie.Need-returns
 returns c =
-    read-done _ _ _ (area (c .before .before .before .before .before .before .before .before)) _ _ (c .before .before .before .before .before .read .result) (c .before .before .before .before .before .read .ensures .0) _ _ (c .before .before .before .before .before .read .ensures .1) (c .before .n .given .1)
+    let k = c .before .before .before .before .before in
+    read-done _ _ _ (area (k .before .before .before)) _ _ (k .read .result) (k .read .ensures .0) _ _ (k .read .ensures .1) (c .before .n .given .1)
 
 same-length-2 : tie.Need-same-length-2
 same-length-2 c = search needs
 
 returns-2 : tie.Need-returns-2
 returns-2 c =
-    read-moved _ _ _ (area (c .before .before .before .before .before .before .before .before .before)) _ _ (c .before .before .before .before .before .before .read .result) (c .before .before .before .before .before .before .read .ensures .0) _ _ _ (c .before .before .before .before .before .before .read .ensures .1) (c .before .before .e .given .1) (c .moved-error .ensures)
+    let g = c .before .before in
+    let k = g .before .before .before .before in
+    read-moved _ _ _ (area (k .before .before .before)) _ _ (k .read .result) (k .read .ensures .0) _ _ _ (k .read .ensures .1) (g .e .given .1)
+    (c .moved-error .ensures)
 
 returns-3 : tie.Need-returns-3
-returns-3 c = read-not _ _ (span-not _ (c .before .before .before .before .common-area .result) (c .before .before .before .before .common-area .ensures) _ (c .before .before .e2 .given .1)) _ _ (c .name-first .ensures) _
+returns-3 c =
+    let g = c .before .before in
+    let f = g .before .before in
+    read-not _ _ (span-not _ (f .common-area .result) (f .common-area .ensures) _ (g .e2 .given .1)) _ _ (c .name-first .ensures) _
 
 pub read-spec : {M : Type 1} → statement M
 read-spec =

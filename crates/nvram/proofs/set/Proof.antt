@@ -14,8 +14,12 @@ use Rattle.nvram.proofs.name_first.Reads as name-first-reads
 use Rattle.edits.proofs.set.Reads as set-reads
 
 -- where the variable area stands
-area : (c : tie.After-known-told) → AreaAt (now (c .before .before .before .before .before .before .before .before .args .image)) (c .before .start .given .0 .0) (c .before .start .given .0 .1 .0)
-area c = span-at (now (c .before .before .before .before .before .before .before .before .args .image)) (c .before .before .before .common-area .result) (c .before .before .before .common-area .ensures) _ _ (c .before .start .given .1)
+area : (c : tie.After-known-told)
+    → AreaAt (now (c .before .before .before .before .before .before .before .before .args .image))
+    (c .before .start .given .0 .0) (c .before .start .given .0 .1 .0)
+area c =
+    let f = c .before .before .before in
+    span-at (now (f .before .before .before .before .before .args .image)) (f .common-area .result) (f .common-area .ensures) _ _ (c .before .start .given .1)
 
 common-area-requires : tie.Need-common-area-requires
 common-area-requires c κs = search needs
@@ -49,17 +53,21 @@ same-length : tie.Need-same-length
 same-length c = search needs
 
 returns : tie.Need-returns
-returns c = (
-  edit-answer _ _ _ (area (c .before .before .before .before .before)) (a-set _ _) (c .before .before .before .set .result) (c .moved-edit .result) (c .before .before .before .set .ensures .0) (c .moved-edit .ensures),
-  edit-image _ _ _ (area (c .before .before .before .before .before)) _ _ (omega arith) (c .before .before .before .set .ensures .1),
-)
+returns c =
+    let k = c .before .before .before in
+    let w = area (k .before .before) in (
+      edit-answer _ _ _ w (a-set _ _) (k .set .result) (c .moved-edit .result) (k .set .ensures .0) (c .moved-edit .ensures),
+      edit-image _ _ _ w _ _ (omega arith) (k .set .ensures .1),
+    )
 
 same-length-2 : tie.Need-same-length-2
 same-length-2 c = search needs
 
 returns-2 : tie.Need-returns-2
 returns-2 c =
-    let f = span-not _ (c .before .before .before .before .common-area .result) (c .before .before .before .before .common-area .ensures) _ (c .before .before .e .given .1) in
+    let g = c .before .before in
+    let k = g .before .before in
+    let f = span-not _ (k .common-area .result) (k .common-area .ensures) _ (g .e .given .1) in
     (set-not _ _ f _ _ (c .name-first .ensures) _, image-not _ _ f _)
 
 pub set-spec : {M : Type 1} → statement M

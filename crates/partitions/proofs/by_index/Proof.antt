@@ -49,7 +49,8 @@ loop-holds c =
     let k = c .before .before in
     let a = k .before .before .args in
     let image = now (a .image) in
-    subst (λ (s : Cursor). onWalk (seekIndex (Refused NoPartition) (a .index)) Refused (rest image (s .at)) ≡ indexOf image (a .index)) (sym (c .start .ensures))
+    subst (λ (s : Cursor). onWalk (seekIndex (Refused NoPartition) (a .index)) Refused (rest image (s .at)) ≡ indexOf image (a .index))
+    (sym (c .start .ensures))
     (index-start image (sym (k .allowed-length .ensures) ∙ not-false _ (c .before .if1 .left)) (a .index))
 
 step-requires : tie.Need-step-requires Inv-loop μ-loop
@@ -76,7 +77,8 @@ loop-again c =
     let s = t .before .before .before in
     let l = s .before in
     let g = t .before .step2 .given in
-    loop-next (imageOf s) (l .loop .cursor .at) (seekIndex (l .loop .best) (l .loop .left)) Refused _ (l .loop .inv) (g .0 .0) (g .0 .1 .0) (sym (s .step .ensures) ∙ g .1)
+    loop-next (imageOf s) (l .loop .cursor .at) (seekIndex (l .loop .best) (l .loop .left)) Refused _ (l .loop .inv)
+    (g .0 .0) (g .0 .1 .0) (sym (s .step .ensures) ∙ g .1)
     (seekIndex (c .first-of .result) (l .loop .left))
     (λ ps. rw (c .first-of .ensures) (seek-here (l .loop .best) (l .loop .left) (c .before .if2 .taken) (g .0 .0) ps))
 
@@ -92,7 +94,8 @@ loop-again-2 c =
     let s = t .before .before .before in
     let l = s .before in
     let g = t .before .step2 .given in
-    loop-next (imageOf s) (l .loop .cursor .at) (seekIndex (l .loop .best) (l .loop .left)) Refused _ (l .loop .inv) (g .0 .0) (g .0 .1 .0) (sym (s .step .ensures) ∙ g .1)
+    loop-next (imageOf s) (l .loop .cursor .at) (seekIndex (l .loop .best) (l .loop .left)) Refused _ (l .loop .inv)
+    (g .0 .0) (g .0 .1 .0) (sym (s .step .ensures) ∙ g .1)
     (seekIndex (l .loop .best) (l .loop .left - 1))
     (seek-later (l .loop .best) (l .loop .left) (c .if2 .left) (g .0 .0))
 
@@ -106,14 +109,16 @@ returns-2 : tie.Need-returns-2 Inv-loop μ-loop
 returns-2 c =
     let s = c .before .before in
     let l = s .before in
-    loop-end (imageOf s) (l .loop .cursor .at) (seekIndex (l .loop .best) (l .loop .left)) Refused _ (l .loop .inv) (sym (s .step .ensures) ∙ c .enum-told .given .1)
+    loop-end (imageOf s) (l .loop .cursor .at) (seekIndex (l .loop .best) (l .loop .left)) Refused _ (l .loop .inv)
+    (sym (s .step .ensures) ∙ c .enum-told .given .1)
 
 returns-3 : tie.Need-returns-3 Inv-loop μ-loop
 returns-3 c =
     let s = c .before .before .before in
     let l = s .before in
     let g = c .before .step3 .given in
-    loop-broken (imageOf s) (l .loop .cursor .at) (seekIndex (l .loop .best) (l .loop .left)) Refused _ (l .loop .inv) (g .0 .0) (sym (s .step .ensures) ∙ g .1)
+    loop-broken (imageOf s) (l .loop .cursor .at) (seekIndex (l .loop .best) (l .loop .left)) Refused _ (l .loop .inv)
+    (g .0 .0) (sym (s .step .ensures) ∙ g .1)
 
 pub by-index-spec : {M : Type 1} → statement M
 by-index-spec =

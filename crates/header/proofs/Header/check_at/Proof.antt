@@ -19,7 +19,8 @@ returns : tie.Need-returns
 returns c =
     let l = c .before in
     let a = l .before .before .before .args in
-    cut-read (now (a .image)) (a .at) (l .length-at .result) (l .length-at .ensures) 0 (omega arith) (c .first-broken .result) (omega arith) (c .first-broken .ensures)
+    cut-read (now (a .image)) (a .at) (l .length-at .result) (l .length-at .ensures) 0 (omega arith)
+    (c .first-broken .result) (omega arith) (c .first-broken .ensures)
 
 sub-room : tie.Need-sub-room
 sub-room c = search needs

@@ -54,7 +54,8 @@ returns-2 c =
     let k = e .before .before in
     let a = k .before .before .before .args in
     read-next (now (a .image)) (a .self .at) (k .check-at .result) (k .check-at .ensures) (e .enum-told .given .1)
-    (l .length-at .result) (l .length-at .ensures) (b .bytes .result) (b .bytes .ensures) (k .before .if1 .left) (s .signature-at .result) (s .signature-at .ensures)
+    (l .length-at .result) (l .length-at .ensures) (b .bytes .result) (b .bytes .ensures) (k .before .if1 .left)
+    (s .signature-at .result) (s .signature-at .ensures)
 
 returns-3 : tie.Need-returns-3
 returns-3 c =
