@@ -4,7 +4,7 @@ use mathlib.Core.Path.{_≡_, ap, refl, sym, subst, _∙_}
 use mathlib.Core.Logic.{_≢_, _↔_}
 use mathlib.Core.List.{List, _∷_}
 use native.Mathlib.Omega.{arith}
-use lib.ListN.{length, take, drop}
+use lib.ListN.{length, length as len, take, drop}
 use native.Mathlib.Decide.{decLe, ℕ-discrete}
 use Rattle.lists.specs.Bytes.{AllBytes}
 use Rattle.lists.proofs.Tests.{clash}
@@ -40,6 +40,10 @@ module _ (image : List ℕ) (at : ℕ) where
   pub name-read : headerAt image at .name ≡ nameAt image at
   unfolding headerAt
   name-read = refl
+
+  pub name-length : len (nameAt image at) ≡ 12
+  unfolding nameAt
+  name-length = refl
 
   -- the first broken rule, by what the code has read
   module _ (b : Blocks) (eb : b ≡ headerAt image at .length) (room : ℕ) (er : room ≡ length image - at) (r : Validity) where

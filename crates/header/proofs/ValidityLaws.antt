@@ -115,13 +115,16 @@ valid-tests true b w x v e = clash (cc)
 valid-tests false true w x v e = clash (cc)
 valid-tests false false w x v e = (refl, refl)
 
-module _ (h : Header) (at room : ℕ) (e : validityOf h at room ≡ Valid) where
-  tests : (eqb (h .length .0) 0 ≡ false) × (ltb room (bytesOf (h .length) .0) ≡ false)
-  unfolding validityOf
+module _ (image : List ℕ) (at : ℕ) (e : validityAt image at ≡ Valid) where
+  abbrev here : Header
+  here = headerAt image at
+
+  tests : (eqb (here .length .0) 0 ≡ false) × (ltb (len image - at) (bytesOf (here .length) .0) ≡ false)
+  unfolding validityAt validityOf
   tests = valid-tests _ _ (BadHeader ZeroLength at) (BadHeader PastEnd at) _ e
 
-  pub valid-nonzero : h .length .0 ≢ 0
+  pub valid-nonzero : here .length .0 ≢ 0
   valid-nonzero = eqb-false _ _ (tests .0)
 
-  pub valid-fits : bytesOf (h .length) .0 ≤ room
+  pub valid-fits : bytesOf (here .length) .0 ≤ len image - at
   valid-fits = ltb-false _ _ (tests .1)

@@ -11,18 +11,10 @@ use Rattle.lists.specs.Bytes.{sameBytes}
 use Rattle.lists.proofs.ByteLaws.{same-longer, same-step}
 use Rattle.lists.proofs.ListLaws.{zeros-at}
 use Rattle.header.specs.declared.Header.{Header}
-use Rattle.header.specs.Header.{headerAt, nameAt}
-use Rattle.partitions.specs.Find.{padded, matches}
-use Rattle.partitions.proofs.FoundLaws.{length-padded}
-
-filled-at : (name : List ℕ) (k i : ℕ) → getD (name ++ replicate k 0) i 0 ≡ getD name i 0
-filled-at [] k i = zeros-at k i
-filled-at (x ∷ xs) k zero = refl
-filled-at (x ∷ xs) k (suc i) = filled-at xs k i
-
-padded-at : (n : ℕ) (name : List ℕ) (i : ℕ) → getD (padded n name) i 0 ≡ getD name i 0
-unfolding padded
-padded-at n name i = filled-at name (n - length name) i
+use Rattle.header.specs.Header.{headerAt}
+use Rattle.header.proofs.RuleLaws.{name-read, name-length}
+use Rattle.partitions.specs.Find.{padded}
+use Rattle.partitions.proofs.FoundLaws.{length-padded, padded-at}
 
 -- the bytes before i agree
 abbrev pub Agree : List ℕ → List ℕ → ℕ → Type 0
@@ -58,18 +50,9 @@ module _ (stored name : List ℕ) where
         rw (e, f) at inv
 
 -- the name of the header that was read
-pub name-read : (image : List ℕ) (at : ℕ) (name : List ℕ) (h : Header) → h ≡ headerAt image at
+pub header-name : (image : List ℕ) (at : ℕ) (name : List ℕ) (h : Header) → h ≡ headerAt image at
     → (r : Bool) → r ≡ sameBytes (h .name) (padded (length (h .name)) name) → r ≡ sameBytes (headerAt image at .name) (padded 12 name)
-unfolding headerAt nameAt
-name-read image at name h eh r er = er ∙ ap (λ (x : Header). sameBytes (x .name) (padded (length (x .name)) name)) eh
-
--- the test of a header, where its signature is the one that is asked for, and where not
-module _ (image : List ℕ) (at signature : ℕ) (name : List ℕ) where
-  pub matches-signed : headerAt image at .signature ≡ signature
-      → matches image signature name at ≡ sameBytes (headerAt image at .name) (padded 12 name)
-  unfolding matches
-  matches-signed e = rw (eq-eqb _ _ e)
-
-  pub matches-other : (headerAt image at .signature ≡ signature → ⊥) → matches image signature name at ≡ false
-  unfolding matches
-  matches-other d = rw (ne-eqb _ _ d)
+header-name image at name h eh r er =
+    let n : length (headerAt image at .name) ≡ 12 = ap length (name-read image at) ∙ name-length image at in
+    er ∙ ap (λ (x : Header). sameBytes (x .name) (padded (length (x .name)) name)) eh
+    ∙ ap (λ (k : ℕ). sameBytes (headerAt image at .name) (padded k name)) n

@@ -14,7 +14,7 @@ use Rattle.partitions.specs.Walk.{Walk, covered, broken, allowedLength}
 use Rattle.partitions.specs.Find.{padded, matches, firstMatch, findBy, findOf}
 use Rattle.partitions.specs.Helpers.{keepFirst}
 use Rattle.partitions.proofs.WalkLaws.{rest, walk-rest, walk-refused, onWalk}
-use Rattle.lookup.proofs.NameLaws.{matches-signed, matches-other}
+use Rattle.partitions.proofs.FoundLaws.{matches-signed, matches-other, find-walk, find-covered, find-broken, match-nothing, match-head, match-tail}
 
 -- what the turns so far make of the partitions that are left
 abbrev pub seekName : List ℕ → ℕ → List ℕ → Found → List Partition → Found
@@ -28,29 +28,27 @@ module _ (image : List ℕ) (signature : ℕ) (name : List ℕ) where
   name-kept q (p ∷ ps) = name-kept q ps
 
   seek-name : (ps : List Partition) → seekName image signature name (Refused NoPartition) ps ≡ firstMatch image signature name ps
-  unfolding firstMatch
-  seek-name [] = refl
+  seek-name [] = sym (match-nothing image signature name)
   seek-name (p ∷ ps) = go (matches image signature name (p .offset)) refl (seek-name ps)
     where
       go : (b : Bool) → matches image signature name (p .offset) ≡ b
           → seekName image signature name (Refused NoPartition) ps ≡ firstMatch image signature name ps
           → seekName image signature name (Refused NoPartition) (p ∷ ps) ≡ firstMatch image signature name (p ∷ ps)
-      go true e ih = rw e (name-kept p ps)
-      go false e ih = rw e ih
+      go true e ih = rw e (name-kept p ps) ∙ sym (match-head image signature name p ps e)
+      go false e ih = rw e ih ∙ sym (match-tail image signature name p ps e)
 
   name-on : (w : Walk) → onWalk (seekName image signature name (Refused NoPartition)) Refused w ≡ findBy image signature name w
-  unfolding findBy
-  name-on (covered ps) = seek-name ps
-  name-on (broken e) = refl
+  name-on (covered ps) = seek-name ps ∙ sym (find-covered image signature name ps)
+  name-on (broken e) = sym (find-broken image signature name e)
 
   pub name-refused : allowedLength (length image) ≡ false → Refused ImageLength ≡ findOf image signature name
-  unfolding findOf findBy
-  name-refused a = ap (findBy image signature name) (sym (walk-refused image a))
+  name-refused a =
+      sym (find-walk image signature name ∙ ap (findBy image signature name) (walk-refused image a) ∙ find-broken image signature name ImageLength)
 
   pub name-start : allowedLength (length image) ≡ true
       → onWalk (seekName image signature name (Refused NoPartition)) Refused (rest image 0) ≡ findOf image signature name
-  unfolding findOf
-  name-start a = name-on (rest image 0) ∙ ap (findBy image signature name) (sym (walk-rest image a))
+  name-start a =
+      name-on (rest image 0) ∙ sym (find-walk image signature name ∙ ap (findBy image signature name) (walk-rest image a))
 
   -- a turn of the loop, where the signature agrees and where not
   module _ (best : Found) (p : Partition) (ps : List Partition) (s : ℕ) (es : s ≡ headerAt image (p .offset) .signature) where

@@ -9,6 +9,7 @@ use Rattle.partitions.specs.declared.Found.{Found}
 use Rattle.partitions.specs.declared.Found.the-variants.{At, Refused}
 use Rattle.partitions.specs.Answers.{findAnswer}
 use Rattle.partitions.specs.Find.{findOf, areaOf}
+use Rattle.partitions.proofs.AreaLaws.{area-refused}
 
 module _ (image : List ℕ) (signature : ℕ) (name : List ℕ) (f : Found) (ef : f ≡ findOf image signature name) where
   module _ (p : Partition) (ep : f ≡ At p) where
@@ -17,8 +18,7 @@ module _ (image : List ℕ) (signature : ℕ) (name : List ℕ) (f : Found) (ef 
 
   module _ (e : Error) (ee : f ≡ Refused e) where
     pub no-area : [] ≡ areaOf image (findOf image signature name)
-    unfolding areaOf
-    no-area = ap (areaOf image) (sym ee ∙ ef)
+    no-area = sym (area-refused image e) ∙ ap (areaOf image) (sym ee ∙ ef)
 
     pub told-refused : (c o : ℕ) → c ≡ codeOf e → o ≡ offsetOf e
         → (c ≡ findAnswer (findOf image signature name) .code) × (o ≡ findAnswer (findOf image signature name) .offset)

@@ -39,10 +39,10 @@ WalkInside image (covered ps) = EachInside image ps
 WalkInside image (broken e) = Unit {0}
 
 valid-inside : (image : List ℕ) (at : ℕ) → at < length image → validityAt image at ≡ Valid → Inside image (partitionOf image at)
-unfolding partitionOf validityAt
+unfolding partitionOf
 valid-inside image at l e =
-    let n : headerAt image at .length .0 ≡ 0 → ⊥ = valid-nonzero (headerAt image at) at (length image - at) e in
-    let fits : headerAt image at .length .0 * 16 ≤ length image - at = valid-fits (headerAt image at) at (length image - at) e in
+    let n : headerAt image at .length .0 ≡ 0 → ⊥ = valid-nonzero image at e in
+    let fits : headerAt image at .length .0 * 16 ≤ length image - at = valid-fits image at e in
     record { header = omega arith; fits = omega arith }
 
 first-inside : (image : List ℕ) (p : Partition) (w : Walk) → Inside image p → WalkInside image w → WalkInside image (first p w)

@@ -1,5 +1,5 @@
 -- Accepted exactly when covered, and refused by each of 1 to 5 exactly when its rule says so.
-use Prim.Native.Nat.{ℕ, suc, zero, _-_, _≤_, _<_}
+use Prim.Native.Nat.{ℕ, suc, zero, _+_, _-_, _*_, _≤_, _<_}
 use mathlib.Core.Path.{_≡_, ap, subst, refl, sym, _∙_}
 use mathlib.Core.Logic.{_↔_}
 use mathlib.Core.Bool.{true, false}
@@ -15,7 +15,7 @@ use Rattle.errors.specs.declared.Error.the-variants.{BadHeader}
 use Rattle.header.specs.declared.Validity.the-variants.{Invalid}
 use Rattle.header.specs.Header.{headerAt, validityAt}
 use Rattle.header.specs.Rules.{blocksAt, Sound, Breaks}
-use Rattle.header.proofs.RuleLaws.{valid-exactly, invalid-exactly, sound-valid, breaks-invalid}
+use Rattle.header.proofs.RuleLaws.{blocks-read, signature-read, valid-exactly, invalid-exactly, sound-valid, breaks-invalid}
 use Rattle.header.proofs.ValidityLaws.{invalid-here}
 use Rattle.partitions.specs.declared.Partition.{Partition}
 use Rattle.partitions.specs.declared.Step.{Step}
@@ -44,12 +44,13 @@ not-length n q = split (allowedLength n) (λ t. absurd (q (length-rule n t))) (�
 
 -- the partition and the next offset that the walk computes are those of the image's bytes
 pub partition-same : (image : List ℕ) (at : ℕ) → partitionOf image at ≡ partitionAt image at
-unfolding partitionOf partitionAt headerAt blocksAt
-partition-same image at = refl
+unfolding partitionOf partitionAt
+partition-same image at =
+    λ i. record { offset = at; blocks = record { 0 = blocks-read image at i }; signature = signature-read image at i }
 
 pub past-same : (image : List ℕ) (at : ℕ) → pastOf image at ≡ pastAt image at
-unfolding pastOf pastAt headerAt blocksAt
-past-same image at = refl
+unfolding pastOf pastAt
+past-same image at = ap (λ (n : ℕ). at + n * 16) (blocks-read image at)
 
 -- partitions put before what a walk finds
 abbrev pub prepend : List Partition → Walk → Walk

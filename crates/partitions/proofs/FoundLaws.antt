@@ -5,16 +5,17 @@ use mathlib.Core.Logic.{_↔_, _⊎_, inl, inr}
 use mathlib.Core.Bool.{true, false}
 use mathlib.Core.List.{List, [], _∷_, _++_}
 use native.Mathlib.Omega.{arith}
-use lib.ListN.{length, length-append, length-replicate}
+use lib.ListN.{length, getD, replicate, length-append, length-replicate}
 use lib.Dec.{eqb}
-use borrow.Author.Tests.{eq-eqb, eqb-true}
+use borrow.Author.Tests.{eq-eqb, ne-eqb, eqb-true}
 use Rattle.lists.specs.Bytes.{AllBytes, sameBytes}
 use Rattle.lists.proofs.Tests.{split, clash, and-true}
+use Rattle.lists.proofs.ListLaws.{zeros-at}
 use Rattle.lists.proofs.ByteLaws.{same-refl, same-true}
 use Rattle.errors.specs.declared.Error.{Error}
 use Rattle.errors.specs.declared.Error.the-variants.{NoPartition}
 use Rattle.header.specs.Header.{headerAt, nameAt}
-use Rattle.header.proofs.RuleLaws.{signature-read, name-read}
+use Rattle.header.proofs.RuleLaws.{signature-read, name-read, name-length}
 use Rattle.partitions.specs.declared.Partition.{Partition}
 use Rattle.partitions.specs.declared.Found.{Found}
 use Rattle.partitions.specs.declared.Found.the-variants.{At, Refused}
@@ -27,11 +28,28 @@ pub length-padded : (n : ℕ) (name : List ℕ) → length (padded n name) ≡ l
 unfolding padded
 length-padded n name = simp (length-append, length-replicate)
 
--- the test of a name and the rule
-name-length : (image : List ℕ) (at : ℕ) → length (nameAt image at) ≡ 12
-unfolding nameAt
-name-length image at = refl
+filled-at : (name : List ℕ) (k i : ℕ) → getD (name ++ replicate k 0) i 0 ≡ getD name i 0
+filled-at [] k i = zeros-at k i
+filled-at (x ∷ xs) k zero = refl
+filled-at (x ∷ xs) k (suc i) = filled-at xs k i
 
+-- a name goes on with zeros
+pub padded-at : (n : ℕ) (name : List ℕ) (i : ℕ) → getD (padded n name) i 0 ≡ getD name i 0
+unfolding padded
+padded-at n name i = filled-at name (n - length name) i
+
+-- the test of a header, where its signature is the one that is asked for, and where not
+module _ (image : List ℕ) (at signature : ℕ) (name : List ℕ) where
+  pub matches-signed : headerAt image at .signature ≡ signature
+      → matches image signature name at ≡ sameBytes (headerAt image at .name) (padded 12 name)
+  unfolding matches
+  matches-signed e = rw (eq-eqb _ _ e)
+
+  pub matches-other : (headerAt image at .signature ≡ signature → ⊥) → matches image signature name at ≡ false
+  unfolding matches
+  matches-other d = rw (ne-eqb _ _ d)
+
+-- the test of a name and the rule
 module _ (image : List ℕ) (signature : ℕ) (name : List ℕ) (at : ℕ) where
   pub named-matches : Named image signature name at → matches image signature name at ≡ true
   unfolding matches padded
@@ -51,6 +69,33 @@ module _ (image : List ℕ) (signature : ℕ) (name : List ℕ) (at : ℕ) where
 
   pub not-matches : ¬ (Named image signature name at) → matches image signature name at ≡ false
   not-matches q = split (matches image signature name at) (λ t. absurd (q (matches-named t))) (λ t. t)
+
+-- what is found, by the walk
+module _ (image : List ℕ) (signature : ℕ) (name : List ℕ) where
+  pub find-walk : findOf image signature name ≡ findBy image signature name (walk image)
+  unfolding findOf
+  find-walk = refl
+
+  pub find-covered : (ps : List Partition) → findBy image signature name (covered ps) ≡ firstMatch image signature name ps
+  unfolding findBy
+  find-covered ps = refl
+
+  pub find-broken : (e : Error) → findBy image signature name (broken e) ≡ Refused e
+  unfolding findBy
+  find-broken e = refl
+
+  pub match-nothing : firstMatch image signature name [] ≡ Refused NoPartition
+  unfolding firstMatch
+  match-nothing = refl
+
+  pub match-head : (p : Partition) (ps : List Partition) → matches image signature name (p .offset) ≡ true → firstMatch image signature name (p ∷ ps) ≡ At p
+  unfolding firstMatch
+  match-head p ps e = rw e
+
+  pub match-tail : (p : Partition) (ps : List Partition) → matches image signature name (p .offset) ≡ false
+      → firstMatch image signature name (p ∷ ps) ≡ firstMatch image signature name ps
+  unfolding firstMatch
+  match-tail p ps e = rw e
 
 -- the first match of a list, by the rules
 module _ (image : List ℕ) (signature : ℕ) (name : List ℕ) where

@@ -37,10 +37,9 @@ module _ (image : List ℕ) (at : ℕ) where
       past = eb ∙ ap bytesOf el
 
       pub read-fits : b .0 ≤ length image - at
-      unfolding validityAt
       read-fits =
           subst (λ (x : Bytes). x .0 ≤ length image - at) (sym past)
-          (valid-fits (headerAt image at) at (length image - at) (sym ev ∙ valid))
+          (valid-fits image at (sym ev ∙ valid))
 
       pub read-next : at < length image → (s : ℕ) → s ≡ headerAt image at .signature
           → _≡_ {A = Step} (Next (record { offset = at; blocks = l; signature = s }) (record { at = at + b .0 })) (stepAt image at)

@@ -38,10 +38,10 @@ view image at = go (decLt at (length image)) (validityAt image at) refl
 -- a partition that breaks no rule takes at least its header, and ends inside the image
 pub past-bounds : (image : List ℕ) (at : ℕ) → at < length image → validityAt image at ≡ Valid
     → (at + 16 ≤ pastOf image at) × (pastOf image at ≤ length image)
-unfolding pastOf validityAt
+unfolding pastOf
 past-bounds image at l e =
-    let n : headerAt image at .length .0 ≡ 0 → ⊥ = valid-nonzero (headerAt image at) at (length image - at) e in
-    let fits : headerAt image at .length .0 * 16 ≤ length image - at = valid-fits (headerAt image at) at (length image - at) e in
+    let n : headerAt image at .length .0 ≡ 0 → ⊥ = valid-nonzero image at e in
+    let fits : headerAt image at .length .0 * 16 ≤ length image - at = valid-fits image at e in
     omega arith
 
 -- any two bounds that suffice find the same

@@ -1,7 +1,7 @@
 -- `lookup::has_name` meets its contract: the name is read and compared.
 use borrow.Author.Needs.{needs}
 use denote.Ref.{now}
-use Rattle.lookup.proofs.NameLaws.{name-read}
+use Rattle.lookup.proofs.NameLaws.{header-name}
 use Rattle.lookup.proofs.has_name.Statement.{statement}
 use Rattle.lookup.proofs.has_name.Tie as tie
 
@@ -15,7 +15,7 @@ returns : tie.Need-returns
 returns c =
     let r = c .before .before .before in
     let a = r .before .before .before .args in
-    name-read (now (a .image)) (a .at) (now (a .name)) (r .read .result) (r .read .ensures) (c .same-name .result) (c .same-name .ensures)
+    header-name (now (a .image)) (a .at) (now (a .name)) (r .read .result) (r .read .ensures) (c .same-name .result) (c .same-name .ensures)
 
 pub has-name-spec : {M : Type 1} → statement M
 has-name-spec = tie.close (tie.spec read-requires same-name-requires returns)
