@@ -5,71 +5,29 @@ use mathlib.Core.List.{List, [], _∷_, _++_}
 use native.Mathlib.Nat.{zero-add}
 use native.Mathlib.Omega.{arith}
 use lib.ListN.{length, length-append}
-use Rattle.lists.proofs.Tests.{split, clash}
+use Rattle.lists.proofs.Tests.{clash}
 use Rattle.lists.proofs.Grown.{Grown, grown-none, grown-as, grown-piece, grown-same, grown-all, grown-end}
 use Rattle.errors.specs.declared.Error.{Error}
-use Rattle.header.specs.declared.Validity.the-variants.{Valid}
-use Rattle.header.specs.Header.{headerAt, validityAt}
-use Rattle.header.proofs.ValidityLaws.{valid-nonzero}
 use Rattle.partitions.specs.declared.Partition.{Partition}
 use Rattle.partitions.specs.declared.Cursor.{Cursor}
-use Rattle.partitions.specs.declared.Step.{Step}
 use Rattle.partitions.specs.declared.Step.the-variants.{Next, End, Broken as Breaks}
 use Rattle.partitions.specs.declared.Checked.the-variants.{Accepted, Refused}
-use Rattle.partitions.specs.Walk.{stepAt, partitionOf, pastOf, Walk, covered, broken, first, walk, allowedLength}
-use Rattle.partitions.specs.Find.{checkedBy, checkOf}
-use Rattle.partitions.proofs.WalkLaws.{View, ends, goes, breaks, view, past-bounds, rest, walk-rest, walk-refused, rest-next, rest-end, rest-broken, onWalk, loop-next, loop-end, loop-broken}
-use Rattle.partitions.proofs.CheckLaws.{check-refused}
+use Rattle.partitions.specs.Walk.{stepAt, Walk, covered, broken, first}
+use Rattle.partitions.specs.Find.{checkOf}
+use Rattle.partitions.proofs.WalkLaws.{rest, rest-next, rest-end, rest-broken, onWalk, loop-next, loop-end, loop-broken}
+use Rattle.partitions.proofs.ListingNeeds.{Goes, next-goes, check-broken, accepted-rest, covered-rest}
 use Rattle.listing.specs.declared.Measured.{Measured}
 use Rattle.listing.specs.declared.Measured.the-variants.{Lines, Broken}
 use Rattle.listing.specs.Text.{line, lines, blocksSum}
 use Rattle.listing.specs.Helpers.{Put, measuredBy, measuredOf, linesBy, linesOf, Covered}
 use Rattle.listing.proofs.WordLaws.{line-within}
 
--- a step that goes on: the partition stands here, and ends inside the image
-pub record Goes (image : List ℕ) (at : ℕ) (p : Partition) (c : Cursor) : Type 0 where
-  pub here : p .offset ≡ at
-  pub some : 1 ≤ p .blocks .0
-  pub past : c .at ≡ at + p .blocks .0 * 16
-  pub inside : c .at ≤ length image
-
-pub valid-goes : (image : List ℕ) (at : ℕ) → at < length image → validityAt image at ≡ Valid
-    → Goes image at (partitionOf image at) (record { at = pastOf image at })
-unfolding partitionOf pastOf validityAt
-valid-goes image at l v =
-    let n : headerAt image at .length .0 ≡ 0 → ⊥ = valid-nonzero (headerAt image at) at (length image - at) v in
-    record { here = refl; some = omega arith; past = refl; inside = past-bounds image at l v .1 }
-
-pub next-goes : (image : List ℕ) (at : ℕ) (p : Partition) (c : Cursor) → stepAt image at ≡ Next p c → Goes image at p c
-next-goes image at p c e = go (stepAt image at) (view image at) e
-  where
-    go : (s : Step) → View image at s → s ≡ Next p c → Goes image at p c
-    go End (ends l) q = clash (cc)
-    go (Next p' c') (goes l v) q =
-        let a : p' ≡ p = cc in
-        let b : c' ≡ c = cc in
-        rw (a, b) at (valid-goes image at l v)
-    go (Breaks x) (breaks l v) q = clash (cc)
-
 pub goes-within : (image : List ℕ) (at : ℕ) (p : Partition) (c : Cursor) → length image ≤ 65_536 → Goes image at p c → length (line image p) ≤ 28
 goes-within image at p c h g = line-within image p (omega (arith, g .here, g .past, g .inside)) (omega (arith, g .past, g .inside))
 
-measure-refused-by : (image : List ℕ) (e : Error) (w : Walk) → checkedBy w ≡ Refused e → Broken e ≡ measuredBy image w
-unfolding checkedBy measuredBy
-measure-refused-by image e (covered ps) q = clash (cc)
-measure-refused-by image e (broken x) q = cc
-
 pub measure-refused : (image : List ℕ) (e : Error) → checkOf image ≡ Refused e → Broken e ≡ measuredOf image
-unfolding checkOf measuredOf
-measure-refused image e q = measure-refused-by image e (walk image) q
-
--- an image that is not refused for its length
-accepted-rest : (image : List ℕ) (n : ℕ) → checkOf image ≡ Accepted n → walk image ≡ rest image 0
-accepted-rest image n q = split (allowedLength (length image)) (λ t. walk-rest image t) (λ t. clash (cc (check-refused image t)))
-
-covered-rest : (image : List ℕ) (ps : List Partition) → walk image ≡ covered ps → rest image 0 ≡ covered ps
-covered-rest image ps q =
-    split (allowedLength (length image)) (λ t. sym (walk-rest image t) ∙ q) (λ t. clash (cc (walk-refused image t)))
+unfolding measuredOf measuredBy
+measure-refused image e q = ap (measuredBy image) (sym (check-broken image e q))
 
 -- what the partitions that are left add to bytes and blocks
 unfoldable pub added : List ℕ → ℕ → ℕ → List Partition → Measured
@@ -170,7 +128,8 @@ module _ {image d : List ℕ} {start cur o : ℕ} {b : List ℕ} (s : Writing im
       let g = s .grown in
       let t = split-left p c e in
       let u : start + length (g .done) ≡ o = g .upto in
-      let j : length (g .done) + length (lines image (s .left)) ≡ length (linesOf image) = sym (length-append (g .done) (lines image (s .left))) ∙ ap length (g .joined) in
+      let j : length (g .done) + length (lines image (s .left)) ≡ length (linesOf image) =
+      sym (length-append (g .done) (lines image (s .left))) ∙ ap length (g .joined) in
       let l : length (lines image (s .left)) ≡ length (line image p) + length (lines image (t .after)) =
       ap length (lines-left p c t) ∙ length-append (line image p) (lines image (t .after)) in
       omega (arith, grown-same g)
@@ -180,10 +139,11 @@ module _ {image d : List ℕ} {start cur o : ℕ} {b : List ℕ} (s : Writing im
   write-next p c e q =
       let t = split-left p c e in
       let r = q .room in
+      let g = s .grown in
       record {
         left = t .after;
         so = t .so-after;
-        grown = grown-piece (s .grown) (line image p) (lines image (t .after)) (lines-left p c t) (omega (arith, q .end, grown-same (s .grown))) (q .end) (q .text);
+        grown = grown-piece g (line image p) (lines image (t .after)) (lines-left p c t) (omega (arith, q .end, grown-same g)) (q .end) (q .text);
       }
 
   pub write-end : stepAt image cur ≡ End → Put d start (linesOf image) o b

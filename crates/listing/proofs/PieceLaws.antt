@@ -6,10 +6,11 @@ use native.Mathlib.Nat.{zero-add}
 use native.Mathlib.Omega.{arith}
 use lib.ListN.{length, set, length-append}
 use lib.Dec.{leb}
-use borrow.Author.Tests.{le-leb, lt-leb, leb-true}
+use borrow.Author.Tests.{le-leb, lt-leb, leb-true, leb-false}
 use Rattle.lists.specs.Pasted.{pasted, writtenIn}
 use Rattle.lists.proofs.Tests.{split, clash}
 use Rattle.lists.proofs.PastedLaws.{set-pasted, set-after, pasted-under, pasted-more, length-pasted}
+use Rattle.lists.proofs.WrittenLaws.{written-in, written-kept}
 use Rattle.errors.specs.declared.Error.the-variants.{ShortBuffer}
 use Rattle.listing.specs.declared.Listed.{Listed}
 use Rattle.listing.specs.declared.Listed.the-variants.{Written, Refused}
@@ -18,28 +19,38 @@ use Rattle.listing.specs.Listed.{listedOf}
 use Rattle.listing.specs.Helpers.{Put}
 use Rattle.listing.proofs.WordLaws.{decimal-digit, decimal-more, length-more}
 
+-- what is answered, where the text has room and where it has none
+module _ (t : List ℕ) (room : ℕ) where
+  pub listed-fits : length t ≤ room → listedOf t room ≡ Written (length t)
+  unfolding listedOf
+  listed-fits h = rw (le-leb _ _ h)
+
+  pub listed-not : room < length t → listedOf t room ≡ Refused ShortBuffer
+  unfolding listedOf
+  listed-not h = rw (lt-leb _ _ h)
+
 module _ (t d : List ℕ) where
   pub listed-short : length d < length t → (Refused ShortBuffer ≡ listedOf t (length d)) × (d ≡ writtenIn t d)
-  unfolding listedOf writtenIn
-  listed-short h = (rw (lt-leb _ _ h), rw (lt-leb _ _ h))
+  listed-short h = (sym (listed-not t (length d) h), sym (written-kept t d h))
 
   pub listed-written : {n : ℕ} {b : List ℕ} → Put d 0 t n b → (Written n ≡ listedOf t (length d)) × (b ≡ writtenIn t d)
-  unfolding listedOf writtenIn
   listed-written {n} {b} p =
       let e : n ≡ length t = p .end ∙ zero-add (length t) in
       let h : length t ≤ length d = omega (arith, p .room) in
-      (rw (le-leb _ _ h, e), rw (le-leb _ _ h) (p .text))
+      (ap Written e ∙ sym (listed-fits t (length d) h), p .text ∙ sym (written-in t d h))
 
-  pub listed-as : {u : List ℕ} {r : Listed} {b : List ℕ} → t ≡ u → (r ≡ listedOf t (length d)) × (b ≡ writtenIn t d) → (r ≡ listedOf u (length d)) × (b ≡ writtenIn u d)
+  pub listed-as : {u : List ℕ} {r : Listed} {b : List ℕ} → t ≡ u → (r ≡ listedOf t (length d)) × (b ≡ writtenIn t d)
+      → (r ≡ listedOf u (length d)) × (b ≡ writtenIn u d)
   listed-as e q = rw e at q
 
 -- a text that is written lies inside the buffer
 pub written-inside : (t : List ℕ) (room n : ℕ) → listedOf t room ≡ Written n → n ≤ room
-unfolding listedOf
 written-inside t room n e =
     split (leb (length t) room)
-    (λ u. let q : length t ≡ n = cc in omega (arith, leb-true (length t) room u))
-    (λ u. clash (cc))
+    (λ u. let h = leb-true (length t) room u in
+    let q : length t ≡ n = cc (listed-fits t room h) in
+    omega arith)
+    (λ u. clash (cc (listed-not t room (leb-false (length t) room u))))
 
 -- a piece, and a piece right after it
 pub put-then : {d w b v c : List ℕ} {at o past : ℕ} → Put d at w o b → Put b o v past c → Put d at (w ++ v) past c

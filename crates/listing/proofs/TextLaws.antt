@@ -1,5 +1,5 @@
 -- Laws of the text: a number in decimal reads back, a text is never longer than 131,072 bytes, and what it is in each case.
-use Prim.Native.Nat.{ℕ, zero, suc, _+_, _-_, _*_, _/_, _%_, _≤_, _<_}
+use Prim.Native.Nat.{ℕ, _+_, _-_, _*_, _/_, _%_, _≤_, _<_}
 use mathlib.Core.Path.{_≡_, refl, sym, ap, _∙_}
 use mathlib.Core.List.{List, [], _∷_, _++_}
 use native.Mathlib.Omega.{arith}
@@ -10,20 +10,18 @@ use Rattle.lists.specs.Bytes.{Every}
 use Rattle.lists.proofs.Tests.{split, clash}
 use Rattle.lists.proofs.ListLaws.{every-append}
 use Rattle.errors.specs.declared.Error.{Error}
-use Rattle.errors.specs.declared.Error.the-variants.{ImageLength}
-use Rattle.errors.proofs.ErrorLaws.{code-range}
-use Rattle.header.proofs.ValidityLaws.{invalid-here}
+use Rattle.errors.specs.declared.Error.the-variants.{ImageLength, BadHeader}
 use Rattle.errors.specs.Errors.{codeOf, offsetOf}
+use Rattle.errors.proofs.ErrorLaws.{code-range}
 use Rattle.partitions.specs.declared.Partition.{Partition}
-use Rattle.partitions.specs.declared.Step.{Step}
-use Rattle.partitions.specs.declared.Step.the-variants.{Next, End, Broken as Breaks}
-use Rattle.partitions.specs.Walk.{stepAt, partitionOf, pastOf, Walk, covered, broken, first, onStep, walkFrom, walk, allowedLength}
-use Rattle.partitions.proofs.WalkLaws.{View, ends, goes, breaks, view, rest, walk-rest, walk-refused}
+use Rattle.partitions.specs.declared.Cursor.{Cursor}
+use Rattle.partitions.specs.Walk.{Walk, covered, broken, first, walk}
+use Rattle.partitions.proofs.ListingNeeds.{Goes, walk-by-steps}
 use Rattle.listing.specs.declared.Measured.the-variants.{Lines, Broken}
 use Rattle.listing.specs.Text.{decimal, line, lines, blocksSum, heading, blocksWord, tooLong, textBy, listingText}
 use Rattle.listing.specs.Helpers.{measuredBy, measuredOf, linesBy, linesOf, Covered}
 use Rattle.listing.proofs.WordLaws.{by-digits, decimal-digit, decimal-more, decimal-some, decimal-within}
-use Rattle.listing.proofs.LinesLaws.{Goes, valid-goes, goes-within}
+use Rattle.listing.proofs.LinesLaws.{goes-within}
 
 -- the number that digits spell, after those that were read
 unfoldable pub numberFrom : ℕ → List ℕ → ℕ
@@ -64,38 +62,19 @@ data Within (image : List ℕ) (at : ℕ) : Walk → Type 0 where
   stops : {e : Error} → offsetOf e ≤ length image → Within image at (broken e)
 
 module _ (image : List ℕ) (h : length image ≤ 65_536) where
-  within-first : (at : ℕ) → Goes image at (partitionOf image at) (record { at = pastOf image at }) → (w : Walk) → Within image (pastOf image at) w
-      → Within image at (first (partitionOf image at) w)
+  within-first : (at : ℕ) (p : Partition) (c : Cursor) → Goes image at p c → (w : Walk) → Within image (c .at) w → Within image at (first p w)
   unfolding lines blocksSum
-  within-first at g (covered ps) (fine a b) =
-      let p : Partition = partitionOf image at in
-      let l : length (line image p) ≤ 28 = goes-within image at p (record { at = pastOf image at }) h g in
+  within-first at p c g (covered ps) (fine a b) =
+      let l : length (line image p) ≤ 28 = goes-within image at p c h g in
       let n : length (line image p ++ lines image ps) ≡ length (line image p) + length (lines image ps) = length-append (line image p) (lines image ps) in
-      fine {ps = partitionOf image at ∷ ps} (omega (arith, g .some, g .past, g .inside)) (omega (arith, g .past, g .inside))
-  within-first at g (broken e) (stops a) = stops a
-
-  within : (n at : ℕ) → at ≤ length image → length image - at < n → Within image at (walkFrom n image at)
-  unfolding walkFrom lines blocksSum
-  within zero at l f = absurd (omega arith)
-  within (suc n) at l f = go (stepAt image at) (view image at) (within n (pastOf image at))
-    where
-      go : (s : Step) → View image at s
-          → (pastOf image at ≤ length image → length image - pastOf image at < n → Within image (pastOf image at) (walkFrom n image (pastOf image at)))
-          → Within image at (onStep s (λ past. walkFrom n image past))
-      go End (ends e) ih = fine {ps = []} (omega arith) (omega arith)
-      go (Next p c) (goes i v) ih =
-          let g = valid-goes image at i v in
-          within-first at g (walkFrom n image (pastOf image at)) (ih (g .inside) (omega (arith, g .some, g .past)))
-      go (Breaks x) (breaks i v) ih = stops {e = x} (omega (arith, ap offsetOf (invalid-here image at x v .1)))
-
-  rest-within : Within image 0 (rest image 0)
-  unfolding rest
-  rest-within = within (suc (length image - 0)) 0 (omega arith) (omega arith)
+      fine {ps = p ∷ ps} (omega (arith, g .some, g .past, g .inside)) (omega (arith, g .past, g .inside))
+  within-first at p c g (broken e) (stops a) = stops a
 
   walk-within : Within image 0 (walk image)
+  unfolding lines blocksSum
   walk-within =
-      split (allowedLength (length image)) (λ t. rw (walk-rest image t) rest-within)
-      (λ t. rw (walk-refused image t) (stops {e = ImageLength} (omega arith)))
+      walk-by-steps image (Within image) (fine {ps = []} (omega arith) (omega arith)) within-first
+      (λ at l f. stops {e = BadHeader f at} (omega arith)) (stops {e = ImageLength} (omega arith))
 
   length-by : (w : Walk) → Within image 0 w → length (textBy image w) ≤ 131_072
   unfolding textBy

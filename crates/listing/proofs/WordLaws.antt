@@ -11,6 +11,7 @@ use borrow.Author.Tests.{eq-eqb, ne-eqb, ltb-true, ltb-false, lt-ltb, le-ltb, le
 use Rattle.lists.proofs.Tests.{split}
 use Rattle.header.specs.declared.Header.{Header}
 use Rattle.header.specs.Header.{nameAt, headerAt}
+use Rattle.header.proofs.RuleLaws.{name-read, name-long}
 use Rattle.errors.specs.declared.Error.{Error}
 use Rattle.errors.specs.Errors.{codeOf, offsetOf}
 use Rattle.partitions.specs.declared.Partition.{Partition}
@@ -123,13 +124,14 @@ unfolding line hexByte
 line-length image p = simp length-append (omega arith)
 
 pub name-twelve : (image : List ℕ) (at : ℕ) → length (shownName (nameAt image at)) ≤ 12
-unfolding nameAt
-name-twelve image at = omega (arith, name-within (nameAt image at))
+name-twelve image at = omega (arith, name-within (nameAt image at), name-long image at)
 
--- the same of a header that was read
-pub name-read : (image : List ℕ) (at : ℕ) (h : Header) → h ≡ headerAt image at → (n : ℕ) → n ≡ length (shownName (h .name)) → n ≤ 12
-unfolding headerAt
-name-read image at h e n q = rw (q, e) (name-twelve image at)
+-- the name of a header that was read
+read-name : (image : List ℕ) (at : ℕ) (h : Header) → h ≡ headerAt image at → h .name ≡ nameAt image at
+read-name image at h e = (λ i. e i .name) ∙ name-read image at
+
+pub read-twelve : (image : List ℕ) (at : ℕ) (h : Header) → h ≡ headerAt image at → (n : ℕ) → n ≡ length (shownName (h .name)) → n ≤ 12
+read-twelve image at h e n q = rw (q, read-name image at h e) (name-twelve image at)
 
 -- with at most five digits in each number a line has at most 28 bytes
 pub line-within : (image : List ℕ) (p : Partition) → p .offset < 100_000 → p .blocks .0 < 100_000 → length (line image p) ≤ 28
@@ -139,8 +141,7 @@ line-within image p o b =
 pub line-sum : (image : List ℕ) (p : Partition) (h : Header) → h ≡ headerAt image (p .offset) → (a b n : ℕ)
     → a ≡ length (decimal (p .offset)) → b ≡ length (decimal (p .blocks .0)) → n ≡ length (shownName (h .name))
     → a + b + n + 6 ≡ length (line image p)
-unfolding headerAt
-line-sum image p h e a b n ea eb en = sym (line-length image p ∙ rw (ea, eb, en, e))
+line-sum image p h e a b n ea eb en = sym (line-length image p ∙ rw (ea, eb, en, read-name image (p .offset) h e))
 
 -- a line without its end, piece by piece
 abbrev pub lineWords : Partition → List ℕ → List ℕ
@@ -148,8 +149,8 @@ lineWords p name =
     (decimal (p .offset) ++ 0x20 ∷ []) ++ (decimal (p .blocks .0) ++ 0x20 ∷ []) ++ hexByte (p .signature) ++ 0x20 ∷ [] ++ name
 
 pub line-words : (image : List ℕ) (p : Partition) (h : Header) → h ≡ headerAt image (p .offset) → lineWords p (shownName (h .name)) ++ 0x0A ∷ [] ≡ line image p
-unfolding line headerAt
-line-words image p h e = rw e (simp append-assoc)
+unfolding line
+line-words image p h e = rw (read-name image (p .offset) h e) (simp append-assoc)
 
 -- the text of a refused image
 module _ (e : Error) (c o : ℕ) (ec : c ≡ codeOf e) (eo : o ≡ offsetOf e) where

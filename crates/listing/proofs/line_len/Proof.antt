@@ -3,7 +3,7 @@ use Prim.Native.Nat.{_≤_}
 use native.Mathlib.Omega.{arith}
 use denote.Ref.{now}
 use borrow.Author.Needs.{needs}
-use Rattle.listing.proofs.WordLaws.{line-sum, name-read}
+use Rattle.listing.proofs.WordLaws.{line-sum, read-twelve}
 use Rattle.listing.proofs.line_len.Statement.{statement}
 use Rattle.listing.proofs.line_len.Tie as tie
 
@@ -30,7 +30,7 @@ named : (c : tie.After-header-name-len) → c .header-name-len .result ≤ 12
 named c =
     let r = c .before .before .before .before .before .before in
     let a = r .before .before .args in
-    name-read (now (a .image)) (a .p .offset) (r .read .result) (r .read .ensures) _ (c .header-name-len .ensures)
+    read-twelve (now (a .image)) (a .p .offset) (r .read .result) (r .read .ensures) _ (c .header-name-len .ensures)
 
 add-result-2 : tie.Need-add-result-2
 add-result-2 c = omega (arith, named c)
@@ -44,7 +44,8 @@ returns c =
     let e = d .before .before in
     let r = e .before .before in
     let a = r .before .before .args in
-    line-sum (now (a .image)) (a .p) (r .read .result) (r .read .ensures) _ _ _ (e .decimal-len .ensures .0) (d .decimal-len2 .ensures .0) (c .header-name-len .ensures)
+    line-sum (now (a .image)) (a .p) (r .read .result) (r .read .ensures) _ _ _
+    (e .decimal-len .ensures .0) (d .decimal-len2 .ensures .0) (c .header-name-len .ensures)
 
 pub line-len-spec : {M : Type 1} → statement M
 line-len-spec =

@@ -17,11 +17,18 @@ decimal-len-requires : tie.Need-decimal-len-requires
 decimal-len-requires c κs = search needs
 
 abbrev textOf : tie.After-decimal-len → List ℕ
-textOf d = textBy (now (d .before .before .before .args .image)) (walk (now (d .before .before .before .args .image)))
+textOf d =
+    let image = now (d .before .before .before .args .image) in
+    textBy image (walk image)
+
+-- its bytes, from those of the lines
+abbrev bytesOf : tie.After-decimal-len → ℕ
+bytesOf d =
+    let a = d .before .before .before .args in
+    a .bytes + length (decimal (a .blocks)) + 27
 
 -- the length of the text, and its bound
-sized : (d : tie.After-decimal-len)
-    → (length (textOf d) ≤ 131_072) × (length (textOf d) ≡ d .before .before .before .args .bytes + length (decimal (d .before .before .before .args .blocks)) + 27)
+sized : (d : tie.After-decimal-len) → (length (textOf d) ≤ 131_072) × (length (textOf d) ≡ bytesOf d)
 sized d =
     let s = d .before .before .before in
     (text-by-fits (now (s .args .image)) (s .pre .0), measured-length (now (s .args .image)) (s .args .bytes) (s .args .blocks) (s .pre .1))
@@ -58,7 +65,10 @@ slice-aggregate-put-2 c = search needs
 
 put-requires-2 : tie.Need-put-requires-2
 put-requires-2 c κs =
-    let s = c .before .before .before .before .before .before .before .before .before .before .before .before .before .before .before .before .before .before .before in
+    let l = c .before .before .before .before .before .before .before .before in
+    let p1 = l .before .before .before .before in
+    let k = p1 .before .before .before .before in
+    let s = k .before .before .before in
     let a = s .args in
     omega (arith, measured-lines (now (a .image)) (a .bytes) (a .blocks) (s .pre .1))
 

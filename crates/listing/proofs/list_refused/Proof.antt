@@ -71,9 +71,9 @@ returns-2 c =
     let p1 = d1 .before .before .before .before in
     let o = p1 .before .before .before .before .before .before in
     let a = o .before .before .before .args in
+    let code = put-then (p1 .put .ensures) (d1 .put-decimal .ensures) in
     listed-written (textBy [] (broken (a .e))) (now (a .text))
-    (put-as
-    (put-then (put-then (put-then (put-then (p1 .put .ensures) (d1 .put-decimal .ensures)) (p2 .put2 .ensures)) (d2 .put-decimal2 .ensures)) (b .put-byte .ensures))
+    (put-as (put-then (put-then (put-then code (p2 .put2 .ensures)) (d2 .put-decimal2 .ensures)) (b .put-byte .ensures))
     (refused-pieces (a .e) (o .before .code .result) (o .offset .result) (o .before .code .ensures) (o .offset .ensures)))
 
 pub list-refused-spec : {M : Type 1} → statement M

@@ -60,8 +60,9 @@ returns-3 c =
     let g = k .before .before .before in
     let m = g .before .before in
     let a = m .before .before .before .before .args in
+    let e = g .measured2 .given in
     listed-as _ (now (a .text))
-    (measured-broken (now (a .image)) (g .measured2 .given .0 .0) (sym (m .measure .ensures) ∙ g .measured2 .given .1) ∙ sym (text-by-walk (now (a .image)) (m .before .if1 .left)))
+    (measured-broken (now (a .image)) (e .0 .0) (sym (m .measure .ensures) ∙ e .1) ∙ sym (text-by-walk (now (a .image)) (m .before .if1 .left)))
     (k .list-refused .ensures)
 
 pub listing-spec : {M : Type 1} → statement M

@@ -7,7 +7,8 @@ use lib.ListN.{length}
 use denote.Ref.{now}
 use borrow.Author.Needs.{needs}
 use Rattle.partitions.specs.declared.Cursor.{Cursor}
-use Rattle.listing.proofs.LinesLaws.{Goes, next-goes, goes-within, Measuring, measure-refused, measure-start, measure-next, measure-end, measure-broken}
+use Rattle.partitions.proofs.ListingNeeds.{Goes, next-goes}
+use Rattle.listing.proofs.LinesLaws.{goes-within, Measuring, measure-refused, measure-start, measure-next, measure-end, measure-broken}
 use Rattle.listing.proofs.measure.Statement.{statement}
 use Rattle.listing.proofs.measure.Tie as tie
 
@@ -21,7 +22,8 @@ abbrev μ-loop : tie.MeasureT-loop
 abbrev imageOf : tie.After-step Inv-loop μ-loop → List ℕ
 imageOf s = now (s .before .before .before .before .before .before .before .args .image)
 
-went : (t : tie.After-step2 Inv-loop μ-loop) → Goes (imageOf (t .before .before)) (t .before .before .before .loop .cursor .at) (t .step2 .given .0 .0) (t .step2 .given .0 .1 .0)
+went : (t : tie.After-step2 Inv-loop μ-loop)
+    → Goes (imageOf (t .before .before)) (t .before .before .before .loop .cursor .at) (t .step2 .given .0 .0) (t .step2 .given .0 .1 .0)
 went t =
     let s = t .before .before in
     next-goes (imageOf s) (s .before .loop .cursor .at) (t .step2 .given .0 .0) (t .step2 .given .0 .1 .0) (sym (s .step .ensures) ∙ t .step2 .given .1)
@@ -83,7 +85,8 @@ loop-again c =
     let s = t .before .before in
     let l = s .before .loop in
     let g = t .step2 .given in
-    measure-next (imageOf s) (l .cursor .at) (l .bytes) (l .blocks) (l .inv) (s .before .before .before .before .before .before .before .pre) (g .0 .0) (g .0 .1 .0)
+    let h = s .before .before .before .before .before .before .before .pre in
+    measure-next (imageOf s) (l .cursor .at) (l .bytes) (l .blocks) (l .inv) h (g .0 .0) (g .0 .1 .0)
     (sym (s .step .ensures) ∙ g .1) (c .before .line-len .result) (c .before .line-len .ensures)
 
 enum-told-2 : tie.Need-enum-told-2 Inv-loop μ-loop

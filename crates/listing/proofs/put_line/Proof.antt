@@ -42,21 +42,40 @@ cast-put-field : tie.Need-cast-put-field
 cast-put-field c = search needs
 
 put-field-requires-2 : tie.Need-put-field-requires-2
-put-field-requires-2 c κs = omega (arith, room (c .before .before .before .before .before .before .before))
+put-field-requires-2 c κs =
+    let f1 = c .before .before .before .before in
+    omega (arith, room (f1 .before .before .before))
 
 put-hex-requires : tie.Need-put-hex-requires
-put-hex-requires c κs = omega (arith, room (c .before .before .before .before .before .before .before .before .before .before .before))
+put-hex-requires c κs =
+    let f2 = c .before .before .before in
+    let f1 = f2 .before .before .before .before .before in
+    omega (arith, room (f1 .before .before .before))
 
 put-byte-requires : tie.Need-put-byte-requires
 unfolding hexByte
-put-byte-requires c κs = omega (arith, room (c .before .before .before .before .before .before .before .before .before .before .before .before .before .before .before))
+put-byte-requires c κs =
+    let h = c .before .before .before in
+    let f2 = h .before .before .before .before in
+    let f1 = f2 .before .before .before .before .before in
+    omega (arith, room (f1 .before .before .before))
 
 put-header-name-requires : tie.Need-put-header-name-requires
 unfolding hexByte
-put-header-name-requires c κs = omega (arith, room (c .before .before .before .before .before .before .before .before .before .before .before .before .before .before .before .before .before .before .before .before))
+put-header-name-requires c κs =
+    let b = c .before .before .before .before in
+    let h = b .before .before .before .before in
+    let f2 = h .before .before .before .before in
+    let f1 = f2 .before .before .before .before .before in
+    omega (arith, room (f1 .before .before .before))
 
 abbrev readOf : tie.After-put-header-name → tie.After-read
-readOf n = n .before .before .before .before .before .before .before .before .before .before .before .before .before .before .before .before .before .before .before .before .before
+readOf n =
+    let b = n .before .before .before .before .before in
+    let h = b .before .before .before .before in
+    let f2 = h .before .before .before .before in
+    let f1 = f2 .before .before .before .before .before in
+    f1 .before .before .before
 
 abbrev startOf : tie.After-put-header-name → tie.Start
 startOf n = readOf n .before .before .before
@@ -70,7 +89,8 @@ written n =
     let h = b .before .before .before .before in
     let f2 = h .before .before .before .before in
     let f1 = f2 .before .before .before .before .before in
-    put-then (put-then (put-then (put-then (f1 .put-field .ensures) (f2 .put-field2 .ensures)) (h .put-hex .ensures)) (b .put-byte .ensures)) (n .put-header-name .ensures)
+    let two = put-then (f1 .put-field .ensures) (f2 .put-field2 .ensures) in
+    put-then (put-then (put-then two (h .put-hex .ensures)) (b .put-byte .ensures)) (n .put-header-name .ensures)
 
 whole : (n : tie.After-put-header-name)
     → lineWords (startOf n .args .p) (shownName (readOf n .read .result .name)) ++ 0x0A ∷ [] ≡ line (now (startOf n .args .image)) (startOf n .args .p)
