@@ -1,14 +1,12 @@
--- Laws of the text: a number in decimal reads back, a text is never longer than 131,072 bytes, and what it is in each case.
-use Prim.Native.Nat.{ℕ, _+_, _-_, _*_, _/_, _%_, _≤_, _<_}
+-- Laws of the text: it is never longer than 131,072 bytes, and what it is in each case.
+use Prim.Native.Nat.{ℕ, _+_, _-_, _*_, _≤_, _<_}
 use mathlib.Core.Path.{_≡_, refl, sym, ap, _∙_}
 use mathlib.Core.List.{List, [], _∷_, _++_}
 use native.Mathlib.Omega.{arith}
 use lib.Dec.{ltb}
-use lib.ListN.{length, getD, length-append, List·getD-append}
+use lib.ListN.{length, length-append}
 use borrow.Author.Tests.{ltb-true, ltb-false, lt-ltb, le-ltb}
-use Rattle.lists.specs.Bytes.{Every}
 use Rattle.lists.proofs.Tests.{split, clash}
-use Rattle.lists.proofs.ListLaws.{every-append}
 use Rattle.errors.specs.declared.Error.{Error}
 use Rattle.errors.specs.declared.Error.the-variants.{ImageLength, BadHeader}
 use Rattle.errors.specs.Errors.{codeOf, offsetOf}
@@ -18,43 +16,11 @@ use Rattle.partitions.specs.declared.Cursor.{Cursor}
 use Rattle.partitions.specs.Walk.{Walk, covered, broken, first, walk}
 use Rattle.partitions.proofs.ListingNeeds.{Goes, walk-by-steps}
 use Rattle.listing.specs.declared.Measured.the-variants.{Lines, Broken}
-use Rattle.listing.specs.Text.{decimal, line, lines, blocksSum, heading, blocksWord, tooLong, textBy, listingText}
+use Rattle.listing.specs.Words.{heading, blocksWord, tooLong}
+use Rattle.listing.specs.Text.{decimal, line, lines, blocksSum, textBy, listingText}
 use Rattle.listing.specs.Helpers.{measuredBy, measuredOf, linesBy, linesOf, Covered}
-use Rattle.listing.proofs.WordLaws.{by-digits, decimal-digit, decimal-more, decimal-some, decimal-within}
+use Rattle.listing.proofs.WordLaws.{decimal-within}
 use Rattle.listing.proofs.LinesLaws.{goes-within}
-
--- the number that digits spell, after those that were read
-unfoldable pub numberFrom : ℕ → List ℕ → ℕ
-numberFrom n [] = n
-numberFrom n (d ∷ ds) = numberFrom (n * 10 + (d - 48)) ds
-
-unfoldable pub number : List ℕ → ℕ
-number ds = numberFrom 0 ds
-
-number-last : (n : ℕ) (ds : List ℕ) (d : ℕ) → numberFrom n (ds ++ d ∷ []) ≡ numberFrom n ds * 10 + (d - 48)
-unfolding numberFrom
-number-last n [] d = refl
-number-last n (x ∷ ds) d = number-last (n * 10 + (x - 48)) ds d
-
--- the digits, read back, give the number
-pub decimal-value : (n : ℕ) → number (decimal n) ≡ n
-unfolding number numberFrom
-decimal-value =
-    by-digits (λ n. number (decimal n) ≡ n) (λ n h. rw (decimal-digit n h) (omega arith))
-    (λ n h e. rw (decimal-more n h) (number-last 0 (decimal (n / 10)) (48 + n % 10) ∙ rw e (omega arith)))
-
--- every byte is a digit
-pub decimal-digits : (n : ℕ) → Every (λ d. (0x30 ≤ d) × (d ≤ 0x39)) (decimal n)
-decimal-digits =
-    by-digits (λ n. Every (λ d. (0x30 ≤ d) × (d ≤ 0x39)) (decimal n)) (λ n h. rw (decimal-digit n h) ((omega arith, omega arith), tt))
-    (λ n h e. rw (decimal-more n h) (every-append _ (decimal (n / 10)) ((48 + n % 10) ∷ []) e ((omega arith, omega arith), tt)))
-
--- no leading zero
-pub decimal-first : (n : ℕ) → 0 < n → getD (decimal n) 0 0 ≡ 0x30 → ⊥
-decimal-first =
-    by-digits (λ n. 0 < n → getD (decimal n) 0 0 ≡ 0x30 → ⊥) (λ n h p. rw (decimal-digit n h) (λ e. omega arith))
-    (λ n h ih p e. ih (omega arith) (sym (List·getD-append (decimal (n / 10)) ((48 + n % 10) ∷ []) 0 0 (decimal-some (n / 10)))
-    ∙ sym (ap (λ (l : List ℕ). getD l 0 0) (decimal-more n h)) ∙ e))
 
 -- what a walk from an offset finds: lines of at most 28 bytes for each block, or an offset inside the image
 data Within (image : List ℕ) (at : ℕ) : Walk → Type 0 where

@@ -16,7 +16,8 @@ use Rattle.errors.specs.declared.Error.{Error}
 use Rattle.errors.specs.Errors.{codeOf, offsetOf}
 use Rattle.partitions.specs.declared.Partition.{Partition}
 use Rattle.partitions.specs.Walk.{broken}
-use Rattle.listing.specs.Text.{decimalFrom, decimal, hexDigit, hexByte, visible, shownName, line, refusedWord, atWord, textBy}
+use Rattle.listing.specs.Words.{refusedWord, atWord}
+use Rattle.listing.specs.Text.{decimalFrom, decimal, hexDigit, hexByte, visible, shownName, line, textBy}
 
 -- any two bounds that suffice give the same digits
 enough : (f g n : ℕ) → n ≤ f → n ≤ g → decimalFrom f n ≡ decimalFrom g n

@@ -8,6 +8,7 @@ use Rattle.errors.specs.Errors.{codeOf, offsetOf}
 use Rattle.header.specs.Header.{nameAt}
 use Rattle.partitions.specs.declared.Partition.{Partition}
 use Rattle.partitions.specs.Walk.{Walk, covered, broken, walk}
+use Rattle.listing.specs.Words.{heading, blocksWord, refusedWord, atWord, tooLong}
 
 -- a number in decimal digits, without leading zeros; the first number bounds the digits
 unfoldable pub decimalFrom : ℕ → ℕ → List ℕ
@@ -49,28 +50,6 @@ lines image (p ∷ ps) = line image p ++ lines image ps
 unfoldable pub blocksSum : List Partition → ℕ
 blocksSum [] = 0
 blocksSum (p ∷ ps) = p .blocks .0 + blocksSum ps
-
--- "at blocks sig name" and 0x0A
-abbrev pub heading : List ℕ
-heading =
-    0x61 ∷ 0x74 ∷ 0x20 ∷ 0x62 ∷ 0x6C ∷ 0x6F ∷ 0x63 ∷ 0x6B ∷ 0x73 ∷ 0x20 ∷ 0x73 ∷ 0x69 ∷ 0x67 ∷ 0x20
-    ∷ 0x6E ∷ 0x61 ∷ 0x6D ∷ 0x65 ∷ 0x0A ∷ []
-
--- " blocks" and 0x0A
-abbrev pub blocksWord : List ℕ
-blocksWord = 0x20 ∷ 0x62 ∷ 0x6C ∷ 0x6F ∷ 0x63 ∷ 0x6B ∷ 0x73 ∷ 0x0A ∷ []
-
--- "refused "
-abbrev pub refusedWord : List ℕ
-refusedWord = 0x72 ∷ 0x65 ∷ 0x66 ∷ 0x75 ∷ 0x73 ∷ 0x65 ∷ 0x64 ∷ 0x20 ∷ []
-
--- " at "
-abbrev pub atWord : List ℕ
-atWord = 0x20 ∷ 0x61 ∷ 0x74 ∷ 0x20 ∷ []
-
--- "too long" and 0x0A
-abbrev pub tooLong : List ℕ
-tooLong = 0x74 ∷ 0x6F ∷ 0x6F ∷ 0x20 ∷ 0x6C ∷ 0x6F ∷ 0x6E ∷ 0x67 ∷ 0x0A ∷ []
 
 -- an accepted image: the heading, a line for each partition, the sum of blocks; a refused one: `refused N at P`
 unfoldable pub textBy : List ℕ → Walk → List ℕ
