@@ -5,3 +5,4 @@ pub mod PieceLaws
 pub mod LinesLaws
 pub mod TextLaws
 pub mod RuleLaws
+pub mod ListedLaws

@@ -3,7 +3,7 @@ use Prim.Native.Nat.{ℕ, _+_, _-_, _*_, _≤_, _<_}
 use mathlib.Core.Path.{_≡_}
 use mathlib.Core.Logic.{_≢_}
 use mathlib.Core.List.{List, [], _∷_, _++_}
-use lib.ListN.{length, getD}
+use lib.ListN.{length, getD, drop}
 use Rattle.lists.specs.Bytes.{Every}
 use Rattle.errors.specs.declared.Error.{Error}
 use Rattle.errors.specs.Errors.{codeOf, offsetOf}
@@ -88,3 +88,18 @@ pub data Listing (image : List ℕ) : List ℕ → Type 0 where
       → Decimal (offsetOf e) at → Listing image (refusedWord ++ code ++ atWord ++ at ++ 0x0A ∷ [])
   accepted : {ps : List Partition} {n : ℕ} {lines sum : List ℕ} → length image ≤ 65_536 → Accepted image ps
       → EachLine image ps lines → BlockSum ps n → Decimal n sum → Listing image (heading ++ lines ++ sum ++ blocksWord)
+
+-- all that a caller sees of a listing into a lent buffer: code, length, and the buffer afterwards
+pub record ListSeen : Type 0 where
+  pub code : ℕ
+  pub amount : ℕ
+  pub buffer : List ℕ
+
+-- a row for each code
+pub data ListRow (image lent : List ℕ) : ListSeen → Type 0 where
+  -- done: the text's length, the text at the buffer's start, and the bytes after it kept
+  done : {text : List ℕ} → Listing image text → length text ≤ length lent
+      → ListRow image lent (record { code = 0; amount = length text; buffer = text ++ drop (length text) lent })
+  -- caller's buffer shorter than the text: the length is 0, and the buffer as it was
+  fourteen : {text : List ℕ} → Listing image text → length lent < length text
+      → ListRow image lent (record { code = 14; amount = 0; buffer = lent })
