@@ -58,14 +58,14 @@ visible-holds : (b : ℕ) → ShownByte b (visible b)
 visible-holds b = go (decLe 0x21 b) (decLe b 0x7E)
   where
     go : Dec (0x21 ≤ b) → Dec (b ≤ 0x7E) → ShownByte b (visible b)
-    go (no l) h = let m : b < 0x21 = omega arith in rw (← visible-below b m) (below m)
-    go (yes l) (no h) = let m : 0x7E < b = omega arith in rw (← visible-above b l m) (above m)
-    go (yes l) (yes h) = subst (ShownByte b) (visible-between b l h) (itself l h)
+    go (no l) h = subst (ShownByte b) (visible-below b (omega arith)) (below (omega arith))
+    go (yes l) (no h) = subst (ShownByte b) (visible-above b (omega arith) (omega arith)) (above (omega arith))
+    go (yes l) (yes h) = subst (ShownByte b) (visible-between b (omega arith) (omega arith)) (itself (omega arith) (omega arith))
 
 holds-visible : {b c : ℕ} → ShownByte b c → visible b ≡ c
-holds-visible (itself {b = b} l h) = sym (visible-between b l h)
-holds-visible (below {b = b} l) = sym (visible-below b l)
-holds-visible (above {b = b} h) = sym (visible-above b (omega arith) h)
+holds-visible (itself {b = b} l h) = sym (visible-between b (omega arith) (omega arith))
+holds-visible (below {b = b} l) = sym (visible-below b (omega arith))
+holds-visible (above {b = b} h) = sym (visible-above b (omega arith) (omega arith))
 
 -- A SHOWN BYTE exactly
 pub visible-exactly : (b c : ℕ) → (visible b ≡ c) ↔ ShownByte b c
