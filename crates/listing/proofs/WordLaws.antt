@@ -1,10 +1,11 @@
 -- Laws of the text's words: numbers in decimal and hex, names, lines, and the text of a refused image.
 use Prim.Native.Nat.{ℕ, zero, suc, _+_, _/_, _%_, _^_, _≤_, _<_}
 use mathlib.Core.Path.{_≡_, refl, sym, ap, _∙_}
+use mathlib.Core.Bool.{_&&_, cond}
 use mathlib.Core.List.{List, [], _∷_, _++_, append-assoc}
 use native.Mathlib.Numerals.{add-one}
 use native.Mathlib.Omega.{arith}
-use lib.Dec.{eqb, ltb}
+use lib.Dec.{eqb, leb, ltb}
 use lib.ListN.{length, getD, drop, length-append, drop-of-length-le}
 use lib.Seq.{drop-cons}
 use borrow.Author.Tests.{eq-eqb, ne-eqb, ltb-true, ltb-false, lt-ltb, le-ltb, le-leb, lt-leb}
@@ -78,17 +79,27 @@ pub hex-high : (n : ℕ) → 10 ≤ n → 55 + n ≡ hexDigit n
 unfolding hexDigit
 hex-high n h = rw (le-ltb n 10 h)
 
+-- a byte between two bounds, below them and above them
+between : (lo hi b other : ℕ) → lo ≤ b → b ≤ hi → b ≡ cond (leb lo b && leb b hi) b other
+between lo hi b other h k = rw (le-leb lo b h, le-leb b hi k)
+
+under : (lo hi b other : ℕ) → b < lo → other ≡ cond (leb lo b && leb b hi) b other
+under lo hi b other h = rw (lt-leb lo b h)
+
+over : (lo hi b other : ℕ) → lo ≤ b → hi < b → other ≡ cond (leb lo b && leb b hi) b other
+over lo hi b other h k = rw (le-leb lo b h, lt-leb b hi k)
+
 pub visible-below : (b : ℕ) → b < 0x21 → 0x3F ≡ visible b
 unfolding visible
-visible-below b h = rw (lt-leb 0x21 b h)
+visible-below b h = under _ _ b 0x3F (omega arith)
 
 pub visible-above : (b : ℕ) → 0x21 ≤ b → 0x7E < b → 0x3F ≡ visible b
 unfolding visible
-visible-above b h k = rw (le-leb 0x21 b h, lt-leb b 0x7E k)
+visible-above b h k = over _ _ b 0x3F (omega arith) (omega arith)
 
 pub visible-between : (b : ℕ) → 0x21 ≤ b → b ≤ 0x7E → b ≡ visible b
 unfolding visible
-visible-between b h k = rw (le-leb 0x21 b h, le-leb b 0x7E k)
+visible-between b h k = between _ _ b 0x3F (omega arith) (omega arith)
 
 module _ (name : List ℕ) (i : ℕ) where
   pub name-byte : i < length name → (getD name i 0 ≡ 0 → ⊥) → shownName (drop i name) ≡ visible (getD name i 0) ∷ shownName (drop (i + 1) name)
