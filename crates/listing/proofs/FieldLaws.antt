@@ -22,15 +22,12 @@ digit-holds n h = go (decLt n 10)
     go (yes l) = rw (← hex-low n l) (digit {n = n} (omega arith))
     go (no l) =
         let e : 10 + (n - 10) ≡ n = omega arith in
-        let f : 0x41 + (n - 10) ≡ 55 + n = omega arith in
-        let g : hexDigit n ≡ 0x41 + (n - 10) = sym (f ∙ hex-high n (omega arith)) in
+        let g : hexDigit n ≡ 0x41 + (n - 10) = omega (arith, hex-high n (omega arith)) in
         rw g (subst (HexDigit (0x41 + (n - 10))) e (capital {n = n - 10} (omega arith)))
 
 holds-digit : {x n : ℕ} → HexDigit x n → (hexDigit n ≡ x) × (n < 16)
 holds-digit (digit {n = n} h) = (sym (hex-low n (omega arith)), omega arith)
-holds-digit (capital {n = n} h) =
-    let e : 55 + (10 + n) ≡ 0x41 + n = omega arith in
-    (sym (hex-high (10 + n) (omega arith)) ∙ e, omega arith)
+holds-digit (capital {n = n} h) = (omega (arith, hex-high (10 + n) (omega arith)), omega arith)
 
 pub hex-holds : (b : ℕ) → b < 256 → HexByte b (hexByte b)
 unfolding hexByte

@@ -79,17 +79,17 @@ module _ (image : List ℕ) (bytes : AllBytes image) where
   listing-holds = go (decLt 65_536 (length image))
     where
       go : Dec (65_536 < length image) → Listing image (listingText image)
-      go (yes l) = rw (text-too-long image l) (too-long l)
-      go (no n) = let l : length image ≤ 65_536 = omega arith in rw (text-by-walk image l) (by-walk l (walk image) (walked image bytes))
+      go (yes l) = rw (text-too-long image (omega arith)) (too-long (omega arith))
+      go (no n) = rw (text-by-walk image (omega arith)) (by-walk (omega arith) (walk image) (walked image bytes))
 
   holds-listing : {text : List ℕ} → Listing image text → listingText image ≡ text
   unfolding textBy
-  holds-listing (too-long l) = text-too-long image l
+  holds-listing (too-long l) = text-too-long image (omega arith)
   holds-listing (refused {e = e} l r c o) =
-      text-by-walk image l ∙ ap (textBy image) (rejected-exactly image bytes e .1 r)
+      text-by-walk image (omega arith) ∙ ap (textBy image) (rejected-exactly image bytes e .1 r)
       ∙ (λ i. refusedWord ++ spells-decimal c i ++ atWord ++ spells-decimal o i ++ 0x0A ∷ [])
   holds-listing (accepted {ps = ps} l a t s d) =
-      text-by-walk image l ∙ ap (textBy image) (accepted-exactly image bytes ps .1 a)
+      text-by-walk image (omega arith) ∙ ap (textBy image) (accepted-exactly image bytes ps .1 a)
       ∙ (λ i. heading ++ hold-lines image t i ++ (ap decimal (holds-sum s) ∙ spells-decimal d) i ++ blocksWord)
 
 -- THE LISTING exactly
