@@ -15,7 +15,7 @@ use Rattle.partitions.specs.declared.Checked.the-variants.{Accepted, Refused}
 use Rattle.partitions.specs.Walk.{stepAt, Walk, covered, broken, first}
 use Rattle.partitions.specs.Find.{checkOf}
 use Rattle.partitions.proofs.WalkLaws.{rest, rest-next, rest-end, rest-broken, onWalk, loop-next, loop-end, loop-broken}
-use Rattle.partitions.proofs.ListingNeeds.{Goes, next-goes, check-broken, accepted-rest, covered-rest}
+use Rattle.partitions.proofs.LoopLaws.{Goes, next-goes, check-broken, accepted-rest, covered-rest}
 use Rattle.listing.specs.declared.Measured.{Measured}
 use Rattle.listing.specs.declared.Measured.the-variants.{Lines, Broken}
 use Rattle.listing.specs.Text.{line, lines, blocksSum}

@@ -13,7 +13,7 @@ use Rattle.partitions.specs.declared.Partition.{Partition}
 use Rattle.partitions.specs.Walk.{Walk, covered, broken, walk}
 use Rattle.partitions.specs.Cover.{partitionAt, Cover, here, next}
 use Rattle.partitions.proofs.CoverLaws.{Walked, accepts, rejects, walked, accepted-exactly, rejected-exactly}
-use Rattle.partitions.proofs.ListingNeeds.{signature-byte}
+use Rattle.partitions.proofs.LoopLaws.{signature-byte}
 use Rattle.listing.specs.Words.{heading, blocksWord, refusedWord, atWord}
 use Rattle.listing.specs.Text.{decimal, line, lines, blocksSum, textBy, listingText}
 use Rattle.listing.specs.Rules.{Line, fields, EachLine, BlockSum, Listing, too-long, refused, accepted}

@@ -14,7 +14,7 @@ use Rattle.errors.proofs.ErrorLaws.{code-range}
 use Rattle.partitions.specs.declared.Partition.{Partition}
 use Rattle.partitions.specs.declared.Cursor.{Cursor}
 use Rattle.partitions.specs.Walk.{Walk, covered, broken, first, walk}
-use Rattle.partitions.proofs.ListingNeeds.{Goes, walk-by-steps}
+use Rattle.partitions.proofs.LoopLaws.{Goes, walk-by-steps}
 use Rattle.listing.specs.declared.Measured.the-variants.{Lines, Broken}
 use Rattle.listing.specs.Words.{heading, blocksWord, tooLong}
 use Rattle.listing.specs.Text.{decimal, line, lines, blocksSum, textBy, listingText}

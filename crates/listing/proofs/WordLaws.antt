@@ -12,7 +12,7 @@ use borrow.Author.Tests.{eq-eqb, ne-eqb, ltb-true, ltb-false, lt-ltb, le-ltb, le
 use Rattle.lists.proofs.Tests.{split}
 use Rattle.header.specs.declared.Header.{Header}
 use Rattle.header.specs.Header.{nameAt, headerAt}
-use Rattle.header.proofs.RuleLaws.{name-read, name-long}
+use Rattle.header.proofs.RuleLaws.{name-read, name-length}
 use Rattle.errors.specs.declared.Error.{Error}
 use Rattle.errors.specs.Errors.{codeOf, offsetOf}
 use Rattle.partitions.specs.declared.Partition.{Partition}
@@ -136,7 +136,7 @@ unfolding line hexByte
 line-length image p = simp length-append (omega arith)
 
 pub name-twelve : (image : List ℕ) (at : ℕ) → length (shownName (nameAt image at)) ≤ 12
-name-twelve image at = omega (arith, name-within (nameAt image at), name-long image at)
+name-twelve image at = omega (arith, name-within (nameAt image at), name-length image at)
 
 -- the name of a header that was read
 read-name : (image : List ℕ) (at : ℕ) (h : Header) → h ≡ headerAt image at → h .name ≡ nameAt image at

@@ -7,4 +7,4 @@ pub mod StepRows
 pub mod FoundLaws
 pub mod AreaLaws
 pub mod FrameLaws
-pub mod ListingNeeds
+pub mod LoopLaws

@@ -7,7 +7,7 @@ use lib.ListN.{length}
 use denote.Ref.{now}
 use borrow.Author.Needs.{needs}
 use Rattle.partitions.specs.declared.Cursor.{Cursor}
-use Rattle.partitions.proofs.ListingNeeds.{Goes, next-goes}
+use Rattle.partitions.proofs.LoopLaws.{Goes, next-goes}
 use Rattle.listing.proofs.LinesLaws.{goes-within, Measuring, measure-refused, measure-start, measure-next, measure-end, measure-broken}
 use Rattle.listing.proofs.measure.Statement.{statement}
 use Rattle.listing.proofs.measure.Tie as tie

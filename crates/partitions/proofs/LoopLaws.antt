@@ -35,7 +35,7 @@ valid-goes : (image : List ℕ) (at : ℕ) → at < length image → validityAt 
     → Goes image at (partitionOf image at) (record { at = pastOf image at })
 unfolding partitionOf pastOf validityAt
 valid-goes image at l v =
-    let n : headerAt image at .length .0 ≡ 0 → ⊥ = valid-nonzero (headerAt image at) at (length image - at) v in
+    let n : headerAt image at .length .0 ≡ 0 → ⊥ = valid-nonzero image at v in
     record { here = refl; some = omega arith; past = refl; inside = past-bounds image at l v .1 }
 
 pub next-goes : (image : List ℕ) (at : ℕ) (p : Partition) (c : Cursor) → stepAt image at ≡ Next p c → Goes image at p c
