@@ -6,12 +6,15 @@ use native.Mathlib.Nat.{add-zero}
 use native.Mathlib.Numerals.{add-one}
 use native.Mathlib.Omega.{arith}
 use borrow.Author.Tests.{le-leb, lt-leb}
-use lib.ListN.{length, getD, set, take, drop, replicate, length-take, length-drop, length-replicate, replicate-append-replicate, take-append-drop, drop-of-length-le}
+use lib.ListN.{length, getD, set, take, drop, replicate, length-take, length-drop}
+use lib.ListN.{length-replicate, replicate-append-replicate, take-append-drop, drop-of-length-le}
 use lib.Seq.{length-take-le, take-all, take-take, take-add, drop-cons, drop-drop, drop-at, getD-drop, getD-take}
 use borrow.Rule.Slice.PartMut.{putMid, midOf, mid-len}
 use Rattle.lists.specs.Pasted.{pasted}
 use Rattle.lists.specs.Helpers.{movedBytes}
-use Rattle.lists.proofs.PastedLaws.{pasted-none, pasted-first, pasted-more, pasted-under, pasted-last, length-pasted, take-pasted-before, drop-pasted-after, set-after, set-before, getD-after, getD-before, copy-step, part-pasted, part-copied}
+use Rattle.lists.proofs.PastedLaws.{pasted-none, pasted-first, pasted-more, pasted-under, pasted-last}
+use Rattle.lists.proofs.PastedLaws.{length-pasted, take-pasted-before, drop-pasted-after, set-after}
+use Rattle.lists.proofs.PastedLaws.{set-before, getD-after, getD-before, copy-step, part-pasted, part-copied}
 
 pub fill-none : (d : List ℕ) (b : ℕ) → d ≡ pasted d 0 (replicate 0 b)
 fill-none d b = pasted-none d 0
@@ -23,7 +26,8 @@ fill-step d i b k =
 pub fill-end : (d : List ℕ) (b i : ℕ) → i ≡ length d → pasted d 0 (replicate i b) ≡ replicate (length d) b
 fill-end d b i e =
     ap (λ (n : ℕ). pasted d 0 (replicate n b)) e ∙ pasted-first d (replicate (length d) b)
-    ∙ ap (λ (l : List ℕ). replicate (length d) b ++ l) (drop-of-length-le d {i = length (replicate (length d) b)} (omega (arith, length-replicate (length d) b)))
+    ∙ ap (λ (l : List ℕ). replicate (length d) b ++ l)
+    (drop-of-length-le d {i = length (replicate (length d) b)} (omega (arith, length-replicate (length d) b)))
     ∙ append-nil (replicate (length d) b)
 
 -- a lent part `&mut d[a..e]` that was filled
@@ -49,7 +53,8 @@ up-none d from to n =
     pasted-none d (to + n) ∙ ap (pasted d (to + n)) (sym (drop-of-length-le (take n (drop from d)) h))
 
 pub up-step : (d : List ℕ) (from to n k : ℕ) → from ≤ to → to + n ≤ length d → k < n
-    → set (pasted d (to + (k + 1)) (drop (k + 1) (take n (drop from d)))) (to + k) (getD (pasted d (to + (k + 1)) (drop (k + 1) (take n (drop from d)))) (from + k) 0)
+    → set (pasted d (to + (k + 1)) (drop (k + 1) (take n (drop from d)))) (to + k)
+    (getD (pasted d (to + (k + 1)) (drop (k + 1) (take n (drop from d)))) (from + k) 0)
     ≡ pasted d (to + k) (drop k (take n (drop from d)))
 up-step d from to n k h r l =
     let w : List ℕ = take n (drop from d) in
@@ -72,7 +77,8 @@ pub up-turn : (d : List ℕ) (from to n k : ℕ) → from ≤ to → to + n ≤ 
     ≡ pasted d (to + (k - 1)) (drop (k - 1) (take n (drop from d)))
 up-turn d from to n k h r p l =
     let e : k - 1 + 1 ≡ k = omega arith in
-    subst (λ (m : ℕ). set (pasted d (to + m) (drop m (take n (drop from d)))) (to + (k - 1)) (getD (pasted d (to + m) (drop m (take n (drop from d)))) (from + (k - 1)) 0)
+    subst (λ (m : ℕ). set (pasted d (to + m) (drop m (take n (drop from d)))) (to + (k - 1))
+    (getD (pasted d (to + m) (drop m (take n (drop from d)))) (from + (k - 1)) 0)
     ≡ pasted d (to + (k - 1)) (drop (k - 1) (take n (drop from d)))) e
     (up-step d from to n (k - 1) h r (omega arith))
 

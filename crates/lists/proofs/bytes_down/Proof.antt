@@ -40,14 +40,21 @@ loop-less c = search needs
 loop-again : tie.Need-loop-again Inv-loop μ-loop
 loop-again c =
     let l = c .before .before .loop in
-    let a = c .before .before .before .args in
-    (search needs, ap (λ (x : List ℕ). set x (a .to + l .k) (getD x (a .from + l .k) 0)) (l .inv .1) ∙ M.down-step _ (a .from) (a .to) (l .k) (search needs) (search needs), simp length-set (l .inv .2))
+    let a = c .before .before .before .args in (
+      search needs,
+      ap (λ (x : List ℕ). set x (a .to + l .k) (getD x (a .from + l .k) 0)) (l .inv .1)
+          ∙ M.down-step _ (a .from) (a .to) (l .k) (search needs) (search needs),
+      simp length-set (l .inv .2),
+    )
 
 same-length : tie.Need-same-length Inv-loop μ-loop
 same-length c = search needs
 
 returns : tie.Need-returns Inv-loop μ-loop
-returns c = let l = c .before .loop in l .inv .1 ∙ M.down-end _ (c .before .before .args .from) _ (c .before .before .args .n) (l .k) (search needs) (search needs)
+returns c =
+    let l = c .before .loop in
+    let a = c .before .before .args in
+    l .inv .1 ∙ M.down-end _ (a .from) _ (a .n) (l .k) (search needs) (search needs)
 
 pub bytes-down-spec : {M : Type 1} → statement M
 bytes-down-spec =

@@ -40,14 +40,21 @@ loop-less c = search needs
 loop-again : tie.Need-loop-again Inv-loop μ-loop
 loop-again c =
     let l = c .before .before .loop in
-    let a = c .before .before .before .args in
-    (search needs, ap (λ (x : List ℕ). set x (a .to + (l .k - 1)) (getD x (a .from + (l .k - 1)) 0)) (l .inv .1) ∙ M.up-turn _ (a .from) (a .to) (a .n) (l .k) (search needs) (search needs) (search needs) (search needs), simp length-set (l .inv .2))
+    let a = c .before .before .before .args in (
+      search needs,
+      ap (λ (x : List ℕ). set x (a .to + (l .k - 1)) (getD x (a .from + (l .k - 1)) 0)) (l .inv .1)
+          ∙ M.up-turn _ (a .from) (a .to) (a .n) (l .k) (search needs) (search needs) (search needs) (search needs),
+      simp length-set (l .inv .2),
+    )
 
 same-length : tie.Need-same-length Inv-loop μ-loop
 same-length c = search needs
 
 returns : tie.Need-returns Inv-loop μ-loop
-returns c = let l = c .before .loop in l .inv .1 ∙ M.up-end _ (c .before .before .args .from) (c .before .before .args .to) (c .before .before .args .n) (l .k) (search needs)
+returns c =
+    let l = c .before .loop in
+    let a = c .before .before .args in
+    l .inv .1 ∙ M.up-end _ (a .from) (a .to) (a .n) (l .k) (search needs)
 
 pub bytes-up-spec : {M : Type 1} → statement M
 bytes-up-spec =

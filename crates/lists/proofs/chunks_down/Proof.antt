@@ -40,8 +40,11 @@ loop-again : tie.Need-loop-again Inv-loop μ-loop
 loop-again c =
     let m = c .before .before in
     let l = m .before .before .before .loop in
-    let a = m .before .before .before .before .before .args in
-    (search needs, M.down-chunk _ (a .from) (a .to) (l .k) 32 (search needs) (search needs) _ _ (l .inv .1) (m .move-chunk .ensures), m .move-chunk .kept .0 ∙ l .inv .2)
+    let a = m .before .before .before .before .before .args in (
+      search needs,
+      M.down-chunk _ (a .from) (a .to) (l .k) 32 (search needs) (search needs) _ _ (l .inv .1) (m .move-chunk .ensures),
+      m .move-chunk .kept .0 ∙ l .inv .2,
+    )
 
 same-length : tie.Need-same-length Inv-loop μ-loop
 same-length c = search needs

@@ -36,8 +36,13 @@ loop-again c =
     let m = c .before .before in
     let l = m .before .before .before .loop in
     let a = m .before .before .before .before .before .args in
-    let q : l .k - 32 + 32 ≡ l .k = omega arith in
-    (search needs, M.up-chunk (a .s .now) (a .from) (a .to) (a .n) (l .k - 32) 32 (search needs) (search needs) (omega arith) _ _ (l .inv .1 ∙ (λ i. pasted (a .s .now) (a .to + sym q i) (drop (sym q i) (take (a .n) (drop (a .from) (a .s .now)))))) (m .move-chunk .ensures), m .move-chunk .kept .0 ∙ l .inv .2)
+    let q : l .k - 32 + 32 ≡ l .k = omega arith in (
+      search needs,
+      M.up-chunk (a .s .now) (a .from) (a .to) (a .n) (l .k - 32) 32 (search needs) (search needs) (omega arith) _ _
+          (l .inv .1 ∙ (λ i. pasted (a .s .now) (a .to + sym q i) (drop (sym q i) (take (a .n) (drop (a .from) (a .s .now))))))
+          (m .move-chunk .ensures),
+      m .move-chunk .kept .0 ∙ l .inv .2,
+    )
 
 same-length : tie.Need-same-length Inv-loop μ-loop
 same-length c = search needs

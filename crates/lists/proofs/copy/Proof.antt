@@ -46,7 +46,8 @@ loop-again c =
       search needs,
       search needs,
       simp length-set (l .inv .3),
-      ap (λ (x : List ℕ). set x (l .i) (getD (a .from .now) (l .i) 0)) (l .inv .4) ∙ copy-step _ 0 (a .from .now) (l .i) _ (omega arith) (search needs) (search needs),
+      ap (λ (x : List ℕ). set x (l .i) (getD (a .from .now) (l .i) 0)) (l .inv .4)
+          ∙ copy-step _ 0 (a .from .now) (l .i) _ (omega arith) (search needs) (search needs),
     )
 
 same-length : tie.Need-same-length Inv-loop μ-loop

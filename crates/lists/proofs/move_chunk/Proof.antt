@@ -48,7 +48,9 @@ returns : tie.Need-returns
 returns c =
     let w = c .before .before in
     let r = w .before .before .before .before in
-    chunk-moved _ (r .before .before .before .before .before .args .from) (r .before .before .before .before .before .args .to) 32 _ (r .copy .last .1 .0) (w .copy2 .last .1 .0) (search needs) (search needs) refl (r .copy .ensures) (w .copy2 .ensures)
+    let a = r .before .before .before .before .before .args in
+    chunk-moved _ (a .from) (a .to) 32 _ (r .copy .last .1 .0) (w .copy2 .last .1 .0) (search needs) (search needs) refl
+    (r .copy .ensures) (w .copy2 .ensures)
 
 pub move-chunk-spec : {M : Type 1} → statement M
 move-chunk-spec =

@@ -27,7 +27,9 @@ returns c =
     let b = c .before .before in
     let h = b .before .before .before .before in
     let a = h .before .before .before .args in
-    down-rest _ (a .from) (a .to) (a .n) (h .chunks-down .result) (search needs) (search needs) (h .chunks-down .ensures .0) _ _ (h .chunks-down .ensures .1) (b .bytes-down .ensures)
+    let k = h .chunks-down in
+    down-rest _ (a .from) (a .to) (a .n) (k .result) (search needs) (search needs) (k .ensures .0) _ _ (k .ensures .1)
+    (b .bytes-down .ensures)
 
 pub move-down-spec : {M : Type 1} → statement M
 move-down-spec =

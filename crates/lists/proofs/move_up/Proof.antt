@@ -18,7 +18,9 @@ returns c =
     let b = c .before .before in
     let h = b .before .before .before .before in
     let a = h .before .before .before .args in
-    up-rest _ (a .from) (a .to) (a .n) (h .chunks-up .result) (search needs) (search needs) (h .chunks-up .ensures .0) _ _ (h .chunks-up .ensures .1) (b .bytes-up .ensures)
+    let k = h .chunks-up in
+    up-rest _ (a .from) (a .to) (a .n) (k .result) (search needs) (search needs) (k .ensures .0) _ _ (k .ensures .1)
+    (b .bytes-up .ensures)
 
 pub move-up-spec : {M : Type 1} → statement M
 move-up-spec = tie.close (tie.spec chunks-up-requires bytes-up-requires same-length returns)
