@@ -13,7 +13,8 @@ use Rattle.lists.proofs.Tests.{split, clash}
 use Rattle.values.specs.Value.{mark, fullEscapes, restEscape, runBytes, escaped, encodeFrom, encode}
 use Rattle.values.specs.Rules.{Escapes, full, rest, none, Begins, Canonical, nothing, itself, zeros, ones}
 use Rattle.lists.proofs.ListLaws.{replicate-snoc}
-use Rattle.values.proofs.EncodeLaws.{escaped-cases, escaped-zero, escaped-ff, rest-none, rest-some, encode-none, encode-more, encode-other, encode-plain, encode-cases, encode-same, encode-run}
+use Rattle.values.proofs.EncodeLaws.{escaped-cases, escaped-zero, escaped-ff, rest-none, rest-some, encode-none}
+use Rattle.values.proofs.EncodeLaws.{encode-more, encode-other, encode-plain, encode-cases, encode-same, encode-run}
 
 -- ---- a run
 
@@ -56,7 +57,8 @@ run-escapes b n = let q : n / 127 * 127 + n % 127 ≡ n = omega arith in rw q at
 -- an open run ends where another byte comes
 pub encode-stop : (b n : ℕ) (v : List ℕ) → ¬ (Begins b v) → encodeFrom b n v ≡ runBytes b n ++ encodeFrom 0 0 v
 encode-stop b n [] q =
-    encode-none b n ∙ sym (append-nil (runBytes b n)) ∙ ap (λ (w : List ℕ). runBytes b n ++ w) (sym (encode-none 0 0 ∙ run-short 0 0 (omega arith) ∙ rest-none 0 0 refl))
+    encode-none b n ∙ sym (append-nil (runBytes b n))
+    ∙ ap (λ (w : List ℕ). runBytes b n ++ w) (sym (encode-none 0 0 ∙ run-short 0 0 (omega arith) ∙ rest-none 0 0 refl))
 encode-stop b n (x ∷ xs) q =
     split (escaped x)
     (λ t. encode-other b n x xs t q ∙ ap (λ (w : List ℕ). runBytes b n ++ w) (sym (first x t (escaped-cases x t))))
@@ -77,7 +79,8 @@ encode-longest b n v t z q = first (escaped-cases b t) ∙ encode-stop b n v q
     first : (b ≡ 0) ⊎ (b ≡ 255) → encodeFrom 0 0 (replicate n b ++ v) ≡ encodeFrom b n v
     first (inl e) =
         let k : 0 + n ≡ n = omega arith in
-        ap (λ (y : ℕ). encodeFrom 0 0 (replicate n y ++ v)) e ∙ encode-same 0 0 n v refl ∙ ap (λ (m : ℕ). encodeFrom 0 m v) k ∙ ap (λ (y : ℕ). encodeFrom y n v) (sym e)
+        ap (λ (y : ℕ). encodeFrom 0 0 (replicate n y ++ v)) e ∙ encode-same 0 0 n v refl ∙ ap (λ (m : ℕ). encodeFrom 0 m v) k
+        ∙ ap (λ (y : ℕ). encodeFrom y n v) (sym e)
     first (inr e) = encode-run 0 0 b n v t (omega arith) z ∙ ap (λ (r : List ℕ). r ++ encodeFrom b n v) (run-short 0 0 (omega arith) ∙ rest-none 0 0 refl)
 
 -- a byte that stands for itself
@@ -91,7 +94,8 @@ encode-piece [] v h = refl
 encode-piece (x ∷ p) v h = encode-itself x (p ++ v) (h .0) ∙ ap (λ (w : List ℕ). x ∷ w) (encode-piece p v (h .1))
 
 -- and after an open run
-pub encode-after : (b n : ℕ) (p v : List ℕ) → Every (λ x. escaped x ≡ false) p → 0 < length p → encodeFrom b n (p ++ v) ≡ runBytes b n ++ (p ++ encodeFrom 0 0 v)
+pub encode-after : (b n : ℕ) (p v : List ℕ) → Every (λ x. escaped x ≡ false) p → 0 < length p
+    → encodeFrom b n (p ++ v) ≡ runBytes b n ++ (p ++ encodeFrom 0 0 v)
 unfolding encode
 encode-after b n [] v h k = absurd (omega arith)
 encode-after b n (x ∷ p) v h k = encode-plain b n x (p ++ v) (h .0) ∙ ap (λ (w : List ℕ). runBytes b n ++ x ∷ w) (encode-piece p v (h .1))

@@ -12,7 +12,8 @@ use Rattle.values.specs.declared.Written.the-variants.{Length, NoRoom}
 use Rattle.values.specs.Value.{runByte, run, decode, writtenOf}
 use Rattle.values.specs.Helpers.{part, Passed}
 use Rattle.lists.proofs.Grown.{grown-left}
-use Rattle.values.proofs.DecodeLaws.{length-run, decode-end, decode-one, decode-two, decode-stop, decode-part, length-one, length-two, length-part, length-piece}
+use Rattle.values.proofs.DecodeLaws.{length-run, decode-end, decode-one, decode-two, decode-stop}
+use Rattle.values.proofs.DecodeLaws.{decode-part, length-one, length-two, length-part, length-piece}
 use Rattle.values.proofs.WrittenLaws.{written-not, count-fits}
 
 -- ---- the loop that counts: n bytes of the value, so far no more than the room

@@ -14,7 +14,8 @@ use Rattle.lists.proofs.Tests.{split, clash}
 use Rattle.values.specs.Value.{runByte, run, decode, spelled, mark, fullEscapes, restEscape, runBytes, escaped, encodeFrom, encode}
 use Rattle.values.specs.Rules.{Spells, nothing, itself, zeros, ones}
 use Rattle.lists.proofs.ListLaws.{replicate-two, replicate-snoc, every-append}
-use Rattle.values.proofs.DecodeLaws.{run-low, run-high, decode-none, decode-plain, decode-escape, run-zeros, run-ones, spelled-plain, spelled-escape, empty-spelled, spells-exactly}
+use Rattle.values.proofs.DecodeLaws.{run-low, run-high, decode-none, decode-plain, decode-escape, run-zeros}
+use Rattle.values.proofs.DecodeLaws.{run-ones, spelled-plain, spelled-escape, empty-spelled, spells-exactly}
 
 -- ---- a byte that is escaped
 

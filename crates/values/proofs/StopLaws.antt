@@ -1,4 +1,5 @@
--- The laws of `firstStop` and `nextStop`, and of the loops that take bytes one by one up to such an offset, `stop`, and there look for a long piece: each turn lowers the measure.
+-- The laws of `firstStop` and `nextStop`, and of the loops that take bytes one by one up to such an offset, `stop`, and there
+-- look for a long piece: each turn lowers the measure.
 use Prim.Native.Nat.{ℕ, _+_, _-_, _*_, _≤_, _<_}
 use mathlib.Core.Path.{_≡_, sym, _∙_}
 use mathlib.Core.Logic.{_⊎_, inl, inr}

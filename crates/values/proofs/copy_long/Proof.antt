@@ -15,8 +15,11 @@ sub-if1 c = search needs
 
 returns : tie.Need-returns
 returns c =
-    let a = c .before .before .before .args in
-    (search needs, pasted-none (now (a .buffer)) (a .at) ∙ ap (pasted (now (a .buffer)) (a .at)) (sym (part-none (now (a .source)) (a .from) (a .from) (search needs))))
+    let a = c .before .before .before .args in (
+      search needs,
+      pasted-none (now (a .buffer)) (a .at)
+          ∙ ap (pasted (now (a .buffer)) (a .at)) (sym (part-none (now (a .source)) (a .from) (a .from) (search needs))),
+    )
 
 find-either-requires : tie.Need-find-either-requires
 find-either-requires c κs = search needs

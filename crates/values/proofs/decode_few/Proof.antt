@@ -36,7 +36,8 @@ run-byte-requires c κs = search needs
 
 fill-requires : tie.Need-fill-requires Inv-loop μ-loop
 fill-requires c κs =
-    omega (arith, run-room (c .before .before .before .before .before .before .before .loop .inv .1) (search needs) (c .before .before .before .before .if1 .taken))
+    let t = c .before .before .before .before in
+    omega (arith, run-room (t .before .before .before .loop .inv .1) (search needs) (t .if1 .taken))
 
 add-i-2 : tie.Need-add-i-2 Inv-loop μ-loop
 add-i-2 c = search needs
@@ -45,10 +46,13 @@ loop-less : tie.Need-loop-less Inv-loop μ-loop
 loop-less c = search needs
 
 loop-again : tie.Need-loop-again Inv-loop μ-loop
-loop-again c = (
-  search needs,
-  run-turn (c .before .before .before .before .before .before .before .before .before .before .loop .inv .1) (search needs) (c .before .before .before .before .before .before .before .if1 .taken) (c .before .before .before .run-byte .ensures) (c .before .before .fill .ensures),
-)
+loop-again c =
+    let r = c .before .before .before in
+    let t = r .before .before .before .before in (
+      search needs,
+      run-turn (t .before .before .before .loop .inv .1) (search needs) (t .if1 .taken) (r .run-byte .ensures)
+          (c .before .before .fill .ensures),
+    )
 
 loop-less-2 : tie.Need-loop-less-2 Inv-loop μ-loop
 loop-less-2 c = search needs

@@ -40,7 +40,9 @@ decode-few-requires c κs =
     let l = c .before .before .before .before .before .before .before in
     let k = c .before .before .before .before .copy-long .ensures in
     let p = piece-turn (l .loop .inv .1) (search needs) (k .0 .0) (k .0 .1) (k .1) in
-    ((plain-inside (l .before .before .before .args .stored .now) (l .loop .i) 255 255 (k .0 .0) (k .0 .1) (search needs), next-inside _ _ (c .before .next-stop .ensures)), rest-fits p)
+    let s = l .before .before .before .args .stored .now in
+    let n = next-inside _ _ (c .before .next-stop .ensures) in
+    ((plain-inside s (l .loop .i) 255 255 (k .0 .0) (k .0 .1) (search needs), n), rest-fits p)
 
 loop-less : tie.Need-loop-less Inv-loop μ-loop
 loop-less c =

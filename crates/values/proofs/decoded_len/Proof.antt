@@ -4,7 +4,8 @@ use native.Mathlib.Omega.{arith}
 use lib.ListN.{length}
 use Rattle.lists.proofs.FindLaws.{either-ahead, either-inside}
 use Rattle.values.proofs.StopLaws.{first-inside, next-inside, next-cases, toGo, stop-less}
-use Rattle.values.proofs.DecodeTurns.{Measured, measured-none, measured-run, measured-long, measured-stop, measured-one, measured-full, measured-piece, measured-wide, measured-all}
+use Rattle.values.proofs.DecodeTurns.{Measured, measured-none, measured-run, measured-long, measured-stop}
+use Rattle.values.proofs.DecodeTurns.{measured-one, measured-full, measured-piece, measured-wide, measured-all}
 use borrow.Author.Needs.{needs}
 use Rattle.values.proofs.decoded_len.Statement.{statement}
 use Rattle.values.proofs.decoded_len.Tie as tie
@@ -83,7 +84,9 @@ sub-if6 : tie.Need-sub-if6 Inv-loop μ-loop
 sub-if6 c = search needs
 
 returns-3 : tie.Need-returns-3 Inv-loop μ-loop
-returns-3 c = measured-long (c .before .before .before .before .before .before .loop .inv .2) (search needs) (c .before .before .before .if4 .taken) (search needs)
+returns-3 c =
+    let t = c .before .before .before in
+    measured-long (t .before .before .before .loop .inv .2) (search needs) (t .if4 .taken) (search needs)
 
 add-n-2 : tie.Need-add-n-2 Inv-loop μ-loop
 add-n-2 c = search needs
@@ -95,13 +98,17 @@ loop-less-2 : tie.Need-loop-less-2 Inv-loop μ-loop
 loop-less-2 c = search needs
 
 loop-again-2 : tie.Need-loop-again-2 Inv-loop μ-loop
-loop-again-2 c = (search needs, search needs, measured-run (c .before .before .before .before .before .before .loop .inv .2) (search needs) (c .before .before .before .if4 .taken) (search needs))
+loop-again-2 c =
+    let t = c .before .before .before in
+    (search needs, search needs, measured-run (t .before .before .before .loop .inv .2) (search needs) (t .if4 .taken) (search needs))
 
 loop-less-3 : tie.Need-loop-less-3 Inv-loop μ-loop
 loop-less-3 c = search needs
 
 loop-again-3 : tie.Need-loop-again-3 Inv-loop μ-loop
-loop-again-3 c = (search needs, search needs, measured-stop (c .before .before .before .before .loop .inv .2) (search needs) (search needs) (c .before .if4 .taken))
+loop-again-3 c =
+    let t = c .before in
+    (search needs, search needs, measured-stop (t .before .before .before .loop .inv .2) (search needs) (search needs) (t .if4 .taken))
 
 returns-4 : tie.Need-returns-4 Inv-loop μ-loop
 returns-4 c = measured-full (c .before .before .before .before .loop .inv .2) (search needs) (c .before .if4 .left) (search needs)
@@ -116,7 +123,9 @@ loop-less-4 : tie.Need-loop-less-4 Inv-loop μ-loop
 loop-less-4 c = search needs
 
 loop-again-4 : tie.Need-loop-again-4 Inv-loop μ-loop
-loop-again-4 c = (search needs, search needs, measured-one (c .before .before .before .before .loop .inv .2) (search needs) (c .before .if4 .left) (search needs))
+loop-again-4 c =
+    let t = c .before in
+    (search needs, search needs, measured-one (t .before .before .before .loop .inv .2) (search needs) (t .if4 .left) (search needs))
 
 pub decoded-len-spec : {M : Type 1} → statement M
 decoded-len-spec =
