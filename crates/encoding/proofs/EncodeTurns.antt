@@ -127,7 +127,16 @@ module _ {v : List ℕ} {i n : ℕ} (s : Counted v i n) where
   counted-plain h t = record { sum = omega (arith, s .sum, ap length (encode-plain-at v i h t)) }
 
   pub counted-piece : i ≤ length v → {e : ℕ} → e ≡ i + untilEither 0 255 (drop i v) → Counted v e (n + (e - i))
-  counted-piece h {e} q = record { sum = omega (arith, s .sum, ap length (encode-part-at v i q), length-append (part v i e) (encode (drop e v)), length-part-at v i q h) }
+  counted-piece h {e} q = record {
+    sum =
+        omega (
+          arith,
+          s .sum,
+          ap length (encode-part-at v i q),
+          length-append (part v i e) (encode (drop e v)),
+          length-part-at v i q h,
+        );
+  }
 
   pub counted-run : i < length v → escaped (getD v i 0) ≡ true → {e k : ℕ} → e ≡ i + leading (getD v i 0) (drop i v) → k ≡ length (runBytes 0 (e - i))
       → Counted v e (n + k)

@@ -1,11 +1,13 @@
--- `encoding::encode_to` meets its contract. The loop's invariant: the first o bytes are in the buffer, and the rest is the canonical form of the bytes from i on.
+-- `encoding::encode_to` meets its contract. The loop's invariant: the first o bytes are in the buffer, and the rest is the
+-- canonical form of the bytes from i on.
 use Prim.Native.Nat.{_-_}
 use mathlib.Core.Path.{sym, _∙_}
 use native.Mathlib.Omega.{arith}
 use lib.ListN.{length}
 use Rattle.lists.proofs.FindLaws.{either-ahead, either-inside}
 use Rattle.values.proofs.WrittenLaws.{part-put}
-use Rattle.encoding.proofs.EncodeTurns.{run-ahead, run-inside, Encoding, encoding-none, encoding-same, byte-room, byte-turn, piece-ahead, piece-room, piece-turn, run-fits, run-turn, encoding-all}
+use Rattle.encoding.proofs.EncodeTurns.{run-ahead, run-inside, Encoding, encoding-none, encoding-same, byte-room}
+use Rattle.encoding.proofs.EncodeTurns.{byte-turn, piece-ahead, piece-room, piece-turn, run-fits, run-turn, encoding-all}
 use borrow.Author.Needs.{needs}
 use Rattle.encoding.proofs.encode_to.Statement.{statement}
 use Rattle.encoding.proofs.encode_to.Tie as tie
@@ -55,10 +57,14 @@ loop-again c =
     (c .before .before .before .before .run-end .ensures) (c .before .before .put-run .ensures .0) (c .before .before .put-run .ensures .1)
 
 slice-write-buffer : tie.Need-slice-write-buffer Inv-loop μ-loop
-slice-write-buffer c = byte-room (c .before .before .before .before .before .loop .inv) (search needs) (sym (c .before .before .is-escaped .ensures) ∙ c .before .if1 .left)
+slice-write-buffer c =
+    let s = c .before .before .before .before .before .loop .inv in
+    byte-room s (search needs) (sym (c .before .before .is-escaped .ensures) ∙ c .before .if1 .left)
 
 add-o : tie.Need-add-o Inv-loop μ-loop
-add-o c = omega (arith, byte-room (c .before .before .before .before .before .loop .inv) (search needs) (sym (c .before .before .is-escaped .ensures) ∙ c .before .if1 .left))
+add-o c =
+    let s = c .before .before .before .before .before .loop .inv in
+    omega (arith, byte-room s (search needs) (sym (c .before .before .is-escaped .ensures) ∙ c .before .if1 .left))
 
 add-i : tie.Need-add-i Inv-loop μ-loop
 add-i c = search needs
@@ -67,7 +73,9 @@ loop-less-2 : tie.Need-loop-less-2 Inv-loop μ-loop
 loop-less-2 c = search needs
 
 loop-again-2 : tie.Need-loop-again-2 Inv-loop μ-loop
-loop-again-2 c = byte-turn (c .before .before .before .before .before .loop .inv) (search needs) (sym (c .before .before .is-escaped .ensures) ∙ c .before .if1 .left)
+loop-again-2 c =
+    let s = c .before .before .before .before .before .loop .inv in
+    byte-turn s (search needs) (sym (c .before .before .is-escaped .ensures) ∙ c .before .if1 .left)
 
 find-either-requires : tie.Need-find-either-requires Inv-loop μ-loop
 find-either-requires c κs = search needs
@@ -114,7 +122,9 @@ loop-less-3 : tie.Need-loop-less-3 Inv-loop μ-loop
 loop-less-3 c =
     let d = c .before .before .before .before .before .before in
     let l = d .before .before .before .before .before .before in
-    omega (arith, piece-ahead (l .before .before .before .before .args .value .now) (l .loop .i) (d .find-either .ensures) (search needs) (sym (d .before .before .before .is-escaped .ensures) ∙ d .before .before .if1 .left))
+    let v = l .before .before .before .before .args .value .now in
+    let t = sym (d .before .before .before .is-escaped .ensures) ∙ d .before .before .if1 .left in
+    omega (arith, piece-ahead v (l .loop .i) (d .find-either .ensures) (search needs) t)
 
 loop-again-3 : tie.Need-loop-again-3 Inv-loop μ-loop
 loop-again-3 c =
@@ -122,8 +132,9 @@ loop-again-3 c =
     let l = d .before .before .before .before .before .before in
     let k = c .before .before .before .copy in
     let q = d .find-either .ensures in
-    piece-turn (l .loop .inv) (search needs) q
-    (part-put (l .loop .buffer) (l .before .before .before .before .args .value .now) (l .loop .i) _ (l .loop .o) (k .last .1 .0) (piece-room (l .loop .inv) (search needs) q) (k .ensures))
+    let v = l .before .before .before .before .args .value .now in
+    let r = piece-room (l .loop .inv) (search needs) q in
+    piece-turn (l .loop .inv) (search needs) q (part-put (l .loop .buffer) v (l .loop .i) _ (l .loop .o) (k .last .1 .0) r (k .ensures))
 
 same-length : tie.Need-same-length Inv-loop μ-loop
 same-length c = encoding-same (c .before .loop .inv)

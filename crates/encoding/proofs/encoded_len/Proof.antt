@@ -4,7 +4,8 @@ use mathlib.Core.Path.{sym, _∙_}
 use native.Mathlib.Omega.{arith}
 use lib.ListN.{length}
 use Rattle.lists.proofs.FindLaws.{either-ahead}
-use Rattle.encoding.proofs.EncodeTurns.{run-ahead, run-inside, Counted, counted-none, counted-bound, counted-plain, piece-ahead, counted-piece, counted-run, counted-all}
+use Rattle.encoding.proofs.EncodeTurns.{run-ahead, run-inside, Counted, counted-none, counted-bound}
+use Rattle.encoding.proofs.EncodeTurns.{counted-plain, piece-ahead, counted-piece, counted-run, counted-all}
 use borrow.Author.Needs.{needs}
 use Rattle.encoding.proofs.encoded_len.Statement.{statement}
 use Rattle.encoding.proofs.encoded_len.Tie as tie
@@ -59,7 +60,10 @@ loop-again c =
     counted-run (l .loop .inv) (search needs) t (c .before .run-end .ensures) (c .run-len .ensures)
 
 add-n-2 : tie.Need-add-n-2 Inv-loop μ-loop
-add-n-2 c = omega (arith, counted-bound (counted-plain (c .before .before .before .before .before .loop .inv) (search needs) (sym (c .before .before .is-escaped .ensures) ∙ c .before .if1 .left)))
+add-n-2 c =
+    let s = c .before .before .before .before .before .loop .inv in
+    let t = sym (c .before .before .is-escaped .ensures) ∙ c .before .if1 .left in
+    omega (arith, counted-bound (counted-plain s (search needs) t))
 
 add-i : tie.Need-add-i Inv-loop μ-loop
 add-i c = search needs
@@ -68,7 +72,10 @@ loop-less-2 : tie.Need-loop-less-2 Inv-loop μ-loop
 loop-less-2 c = search needs
 
 loop-again-2 : tie.Need-loop-again-2 Inv-loop μ-loop
-loop-again-2 c = counted-plain (c .before .before .before .before .before .loop .inv) (search needs) (sym (c .before .before .is-escaped .ensures) ∙ c .before .if1 .left)
+loop-again-2 c =
+    let s = c .before .before .before .before .before .loop .inv in
+    let t = sym (c .before .before .is-escaped .ensures) ∙ c .before .if1 .left in
+    counted-plain s (search needs) t
 
 find-either-requires : tie.Need-find-either-requires Inv-loop μ-loop
 find-either-requires c κs = search needs
@@ -92,7 +99,8 @@ loop-less-3 : tie.Need-loop-less-3 Inv-loop μ-loop
 loop-less-3 c =
     let l = c .before .before .before .before .before .before .before in
     let q = c .before .find-either .ensures in
-    omega (arith, piece-ahead (l .before .before .before .args .value .now) (l .loop .i) q (search needs) (sym (c .before .before .before .before .is-escaped .ensures) ∙ c .before .before .before .if1 .left))
+    let t = sym (c .before .before .before .before .is-escaped .ensures) ∙ c .before .before .before .if1 .left in
+    omega (arith, piece-ahead (l .before .before .before .args .value .now) (l .loop .i) q (search needs) t)
 
 loop-again-3 : tie.Need-loop-again-3 Inv-loop μ-loop
 loop-again-3 c =

@@ -35,7 +35,8 @@ shared-slice-read-if4 c = search needs
 returns-3 : tie.Need-returns-3 Inv-loop μ-loop
 returns-3 c =
     let l = c .before .before .before .before .before .before .before .loop in
-    spelling-bad (l .inv) (search needs) (c .before .before .before .if2 .taken) (omega (arith, c .before .shared-slice-known3 .given (l .i + 1))) (c .if4 .taken)
+    spelling-bad (l .inv) (search needs) (c .before .before .before .if2 .taken)
+    (omega (arith, c .before .shared-slice-known3 .given (l .i + 1))) (c .if4 .taken)
 
 add-i-2 : tie.Need-add-i-2 Inv-loop μ-loop
 add-i-2 c = search needs
@@ -44,7 +45,9 @@ loop-less : tie.Need-loop-less Inv-loop μ-loop
 loop-less c = search needs
 
 loop-again : tie.Need-loop-again Inv-loop μ-loop
-loop-again c = spelling-run (c .before .before .before .before .before .before .before .loop .inv) (search needs) (c .before .before .before .if2 .taken) (c .if4 .left)
+loop-again c =
+    let s = c .before .before .before .before .before .before .before .loop .inv in
+    spelling-run s (search needs) (c .before .before .before .if2 .taken) (c .if4 .left)
 
 plain-end-requires : tie.Need-plain-end-requires Inv-loop μ-loop
 plain-end-requires c κs = search needs
@@ -52,7 +55,9 @@ plain-end-requires c κs = search needs
 loop-less-2 : tie.Need-loop-less-2 Inv-loop μ-loop
 loop-less-2 c =
     let l = c .before .before .before .before .before in
-    omega (arith, either-further (l .before .before .args .stored .now) (l .loop .i) 0 255 (c .plain-end .ensures) (search needs) (c .before .before .if1 .left) (c .before .if2 .left))
+    let s = l .before .before .args .stored .now in
+    let q = c .plain-end .ensures in
+    omega (arith, either-further s (l .loop .i) 0 255 q (search needs) (c .before .before .if1 .left) (c .before .if2 .left))
 
 loop-again-2 : tie.Need-loop-again-2 Inv-loop μ-loop
 loop-again-2 c = spelling-piece (c .before .before .before .before .before .loop .inv) (c .plain-end .ensures)

@@ -2,7 +2,8 @@
 use Prim.Native.Nat.{_≤_, _-_}
 use mathlib.Core.Path.{_∙_}
 use native.Mathlib.Omega.{arith}
-use Rattle.encoding.proofs.EncodeTurns.{Escaping, escaping-none, escaping-same, full-fits, full-turn, even-place, even-all, rest-fits, rest-place, rest-all}
+use Rattle.encoding.proofs.EncodeTurns.{Escaping, escaping-none, escaping-same, full-fits, full-turn}
+use Rattle.encoding.proofs.EncodeTurns.{even-place, even-all, rest-fits, rest-place, rest-all}
 use borrow.Author.Needs.{needs}
 use Rattle.encoding.proofs.put_run.Statement.{statement}
 use Rattle.encoding.proofs.put_run.Tie as tie

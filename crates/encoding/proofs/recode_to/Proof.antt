@@ -1,9 +1,12 @@
--- `encoding::recode_to` meets its contract. The loop's invariant: the canonical form is written up to o, a run of n times b is open, and the bytes from i on are as they were.
+-- `encoding::recode_to` meets its contract. The loop's invariant: the canonical form is written up to o, a run of n times b is
+-- open, and the bytes from i on are as they were.
 use Prim.Native.Nat.{_+_, _-_}
 use mathlib.Core.Path.{_∙_}
 use native.Mathlib.Omega.{arith}
 use Rattle.encoding.proofs.RecodeLaws.{recodable-told}
-use Rattle.encoding.proofs.RecodeTurns.{Recoding, recoding-none, recoding-same, flush-fits, two-in, same-turn, full-room, full-turn, other-turn, some-bytes, piece-in, move-fits, piece-turn, recoding-place, recoding-all}
+use Rattle.encoding.proofs.RecodeTurns.{Recoding, recoding-none, recoding-same, flush-fits, two-in}
+use Rattle.encoding.proofs.RecodeTurns.{same-turn, full-room, full-turn, other-turn, some-bytes}
+use Rattle.encoding.proofs.RecodeTurns.{piece-in, move-fits, piece-turn, recoding-place, recoding-all}
 use borrow.Author.Needs.{needs}
 use Rattle.encoding.proofs.recode_to.Statement.{statement}
 use Rattle.encoding.proofs.recode_to.Tie as tie
@@ -24,10 +27,14 @@ add-i : tie.Need-add-i Inv-loop μ-loop
 add-i c = let s = c .before .before .before .loop .inv in omega (arith, recoding-same s, s .inside)
 
 slice-read-c : tie.Need-slice-read-c Inv-loop μ-loop
-slice-read-c c = let s = c .before .before .before .before .loop .inv in omega (arith, recoding-same s, s .inside, two-in s (search needs) (c .before .if1 .taken))
+slice-read-c c =
+    let s = c .before .before .before .before .loop .inv in
+    omega (arith, recoding-same s, s .inside, two-in s (search needs) (c .before .if1 .taken))
 
 add-i-2 : tie.Need-add-i-2 Inv-loop μ-loop
-add-i-2 c = let s = c .before .before .before .before .loop .inv in omega (arith, recoding-same s, s .inside, two-in s (search needs) (c .before .if1 .taken))
+add-i-2 c =
+    let s = c .before .before .before .before .loop .inv in
+    omega (arith, recoding-same s, s .inside, two-in s (search needs) (c .before .if1 .taken))
 
 run-byte-requires : tie.Need-run-byte-requires Inv-loop μ-loop
 run-byte-requires c κs = search needs
@@ -61,7 +68,9 @@ loop-less-2 c = search needs
 loop-again-2 : tie.Need-loop-again-2 Inv-loop μ-loop
 loop-again-2 c =
     let d = c .before in
-    same-turn (d .before .before .before .before .before .before .loop .inv) (search needs) (d .before .before .before .if1 .taken) (d .before .run-byte .ensures) (d .if2 .left) (search needs)
+    let s = d .before .before .before .before .before .before .loop .inv in
+    let t = d .before .before .before .if1 .taken in
+    same-turn s (search needs) t (d .before .run-byte .ensures) (d .if2 .left) (search needs)
 
 mark-of-requires : tie.Need-mark-of-requires Inv-loop μ-loop
 mark-of-requires c κs = search needs
@@ -72,12 +81,16 @@ add-put-escape c = search needs
 put-escape-requires : tie.Need-put-escape-requires Inv-loop μ-loop
 put-escape-requires c κs =
     let d = c .before .before .before in
-    full-room (d .before .before .before .before .before .before .loop .inv) (search needs) (d .before .before .before .if1 .taken) (d .before .run-byte .ensures) (d .if2 .left) (search needs)
+    let s = d .before .before .before .before .before .before .loop .inv in
+    let t = d .before .before .before .if1 .taken in
+    full-room s (search needs) t (d .before .run-byte .ensures) (d .if2 .left) (search needs)
 
 add-o : tie.Need-add-o Inv-loop μ-loop
 add-o c =
     let d = c .before .before .before .before .before .before in
-    omega (arith, full-room (d .before .before .before .before .before .before .loop .inv) (search needs) (d .before .before .before .if1 .taken) (d .before .run-byte .ensures) (d .if2 .left) (search needs))
+    let s = d .before .before .before .before .before .before .loop .inv in
+    let t = d .before .before .before .if1 .taken in
+    omega (arith, full-room s (search needs) t (d .before .run-byte .ensures) (d .if2 .left) (search needs))
 
 add-n-2 : tie.Need-add-n-2 Inv-loop μ-loop
 add-n-2 c = omega (arith, c .before .before .before .before .before .before .before .before .before .before .before .before .loop .inv .few)
@@ -91,7 +104,9 @@ loop-less-3 c = search needs
 loop-again-3 : tie.Need-loop-again-3 Inv-loop μ-loop
 loop-again-3 c =
     let d = c .before .before .before .before .before .before in
-    full-turn (d .before .before .before .before .before .before .loop .inv) (search needs) (d .before .before .before .if1 .taken) (d .before .run-byte .ensures) (d .if2 .left) (search needs)
+    let s = d .before .before .before .before .before .before .loop .inv in
+    let t = d .before .before .before .if1 .taken in
+    full-turn s (search needs) t (d .before .run-byte .ensures) (d .if2 .left) (search needs)
     (c .before .before .before .mark-of .ensures .0) (c .before .before .put-escape .ensures)
 
 sub-plain-end : tie.Need-sub-plain-end Inv-loop μ-loop
@@ -113,7 +128,9 @@ move-piece-requires : tie.Need-move-piece-requires Inv-loop μ-loop
 move-piece-requires c κs =
     let l = c .before .before .before .before .before .before .before .before .before .before .before .loop in
     let p = c .before .before .before .put-run2 .ensures in
-    move-fits (l .inv) (search needs) (c .before .before .before .before .before .before .before .before .if1 .left) (c .before .before .before .before .before .plain-end .ensures) (p .0) (p .1)
+    let b = c .before .before .before .before .before .before .before .before .if1 .left in
+    let q = c .before .before .before .before .before .plain-end .ensures in
+    move-fits (l .inv) (search needs) b q (p .0) (p .1)
 
 add-o-2 : tie.Need-add-o-2 Inv-loop μ-loop
 add-o-2 c =
@@ -121,7 +138,8 @@ add-o-2 c =
     let p = c .before .before .before .before .before .before .put-run2 .ensures in
     let b = c .before .before .before .before .before .before .before .before .before .before .before .if1 .left in
     let q = c .before .before .before .before .before .before .before .before .plain-end .ensures in
-    omega (arith, move-fits (l .inv) (search needs) b q (p .0) (p .1), recoding-same (l .inv), c .before .before .before .before .before .before .put-run2 .kept .0)
+    let k = c .before .before .before .before .before .before .put-run2 .kept .0 in
+    omega (arith, move-fits (l .inv) (search needs) b q (p .0) (p .1), recoding-same (l .inv))
 
 add-i-3 : tie.Need-add-i-3 Inv-loop μ-loop
 add-i-3 c =
