@@ -24,7 +24,8 @@ empty-holds l starts from = record {
   full = λ p a b s. absurd (omega arith);
 }
 
-pub empty-block : {l links starts : List ℕ} {from best : ℕ} → Table l links starts 0 → Distinct l from best → from < best → best ≤ length l → Start l from → Block l links starts 0 from from best
+pub empty-block : {l links starts : List ℕ} {from best : ℕ} → Table l links starts 0 → Distinct l from best → from < best
+    → best ≤ length l → Start l from → Block l links starts 0 from from best
 empty-block {l} {links} {starts} {from} {best} t d h b s = record {
   table = t;
   holds = empty-holds l starts from;
@@ -62,7 +63,8 @@ distinct-grow {l} {starts} {k} {from} {best} {at} {r} hs d m h n miss =
           (λ t. n .none q (omega (arith, ltb-false p at t)) c v);
     }
 
-holds-more : {l starts : List ℕ} {k from at r : ℕ} → k < length starts → Filled l starts k from at → from ≤ at → Start l at → Next l at r → Filled l (set starts k at) (k + 1) from r
+holds-more : {l starts : List ℕ} {k from at r : ℕ} → k < length starts → Filled l starts k from at → from ≤ at → Start l at
+    → Next l at r → Filled l (set starts k at) (k + 1) from r
 holds-more {l} {starts} {k} {from} {at} {r} room hs o st n = record {
   begins = λ i h. split-eq i k
       (λ q. subst (λ (z : ℕ). Start l z) (sym (new i q)) st)
@@ -84,8 +86,9 @@ holds-more {l} {starts} {k} {from} {at} {r} room hs o st n = record {
     old i q = getD-set-other starts k i at 0 q
 
 module _ {l links starts : List ℕ} {k from at best : ℕ} (s : Block l links starts k from at best) where
-  pub block-more : (links' starts' : List ℕ) (link r : ℕ) → Distinct l from best → at < best → k < length starts → Walked l links starts k at link false → links' ≡ set links link (k + 1) → starts' ≡ set starts k at → Next l at r → r ≤ best
-      → Block l links' starts' (k + 1) from r best
+  pub block-more : (links' starts' : List ℕ) (link r : ℕ) → Distinct l from best → at < best → k < length starts
+      → Walked l links starts k at link false → links' ≡ set links link (k + 1) → starts' ≡ set starts k at → Next l at r
+      → r ≤ best → Block l links' starts' (k + 1) from r best
   block-more links' starts' link r d h room look e g n f = record {
     table = rw (e, g) (inserted at (s .table) room (s .begins h .inside) (look .free refl));
     holds = rw g (holds-more room (s .holds) (s .from-low) (s .begins h) n);
@@ -102,7 +105,13 @@ module _ {l links starts : List ℕ} {k from at best : ℕ} (s : Block l links s
       record {
         block = s;
         further = omega (arith, s .holds .low (t .entry) (t .below), s .holds .high (t .entry) (t .below));
-        early = λ _. record { place = getD starts (t .entry) 0; before = s .holds .high (t .entry) (t .below); first = s .holds .begins (t .entry) (t .below); second = s .begins h; same = t .same };
+        early = λ _. record {
+          place = getD starts (t .entry) 0;
+          before = s .holds .high (t .entry) (t .below);
+          first = s .holds .begins (t .entry) (t .below);
+          second = s .begins h;
+          same = t .same;
+        };
       }
 
   pub block-done : from < at → Gathered l links starts k from at best false
@@ -123,7 +132,8 @@ module _ {l links starts : List ℕ} {k from mid best : ℕ} (s : Block l links 
   pub scan-none : Scanned l from mid best mid
   scan-none = record { apart = s .apart; low = omega arith; begins = s .begins; high = s .at-high }
 
-  pub scan-more : {at r link : ℕ} → Scanned l from mid best at → Distinct l from best → at < best → Walked l links starts k at link false → Next l at r → r ≤ best → Scanned l from mid best r
+  pub scan-more : {at r link : ℕ} → Scanned l from mid best at → Distinct l from best → at < best
+      → Walked l links starts k at link false → Next l at r → r ≤ best → Scanned l from mid best r
   scan-more {at} {r} {link} c d h look n f = record {
     apart = distinct-next (s .holds) d (c .apart) h (c .low) n (look .missed refl);
     low = omega (arith, c .low, n .falls);
@@ -138,7 +148,13 @@ module _ {l links starts : List ℕ} {k from mid best : ℕ} (s : Block l links 
         distinct = c .apart;
         better = record {
           inside = omega (arith, s .best-in);
-          hit = λ _. record { place = getD starts (t .entry) 0; before = omega (arith, s .holds .high (t .entry) (t .below), c .low); first = s .holds .begins (t .entry) (t .below); second = c .begins h; same = t .same };
+          hit = λ _. record {
+            place = getD starts (t .entry) 0;
+            before = omega (arith, s .holds .high (t .entry) (t .below), c .low);
+            first = s .holds .begins (t .entry) (t .below);
+            second = c .begins h;
+            same = t .same;
+          };
         };
         further = w;
         begins = λ y. s .begins (omega arith);

@@ -129,11 +129,14 @@ shrink h d = record { differ = λ p q a b c u v e. d .differ p q (omega arith) b
 
 pub first-at : {l : List ℕ} {from best : ℕ} → Distinct l from best → Best l best → best ≤ from → best < length l → At best ≡ firstRepeat l
 unfolding answer
-first-at {l} {from} {best} d b h i = first-is l best true (shrink h d) (b .inside) (λ _. b .hit i) (λ e. let z : _≡_ {A = ℕ} 0 1 = cc in absurd (omega arith))
+first-at {l} {from} {best} d b h i =
+    first-is l best true (shrink h d) (b .inside) (λ _. b .hit i) (λ e. let z : _≡_ {A = ℕ} 0 1 = cc in absurd (omega arith))
 
 pub first-none : {l : List ℕ} {from best : ℕ} → Distinct l from best → Best l best → best ≤ from → length l ≤ best → None ≡ firstRepeat l
 unfolding answer
-first-none {l} {from} {best} d b h i = first-is l best false (shrink h d) (b .inside) (λ e. let z : _≡_ {A = ℕ} 0 1 = cc in absurd (omega arith)) (λ _. omega (arith, b .inside))
+first-none {l} {from} {best} d b h i =
+    first-is l best false (shrink h d) (b .inside) (λ e. let z : _≡_ {A = ℕ} 0 1 = cc in absurd (omega arith))
+    (λ _. omega (arith, b .inside))
 
 -- the loop's start
 pub none-yet : (l : List ℕ) → Distinct l 0 (length l)

@@ -37,7 +37,8 @@ found-none {links} {n} {at} {way} {i} f z = go (f .comes) z (f .is)
     go here z e = omega arith
     go (there q r) z e = omega arith
 
-found-past : {links : List ℕ} {n at way i o : ℕ} → Found links n at way i → getD links at 0 ≡ suc o → (i ≡ o → ⊥) → Found links n (n + 2 * o + way % 2) (way / 2) i
+found-past : {links : List ℕ} {n at way i o : ℕ} → Found links n at way i → getD links at 0 ≡ suc o → (i ≡ o → ⊥)
+    → Found links n (n + 2 * o + way % 2) (way / 2) i
 found-past {links} {n} {at} {way} {i} {o} f e d = go (f .comes) e (f .is)
   where
     go : {s a w : ℕ} → Comes links n s a w → getD links a 0 ≡ suc o → getD links s 0 ≡ suc i → Found links n (n + 2 * o + w % 2) (w / 2) i
@@ -75,7 +76,8 @@ module _ {l links starts : List ℕ} {k : ℕ} (t : Table l links starts k) wher
       free = λ e. let z : _≡_ {A = ℕ} 0 1 = cc in absurd (omega arith);
     }
 
-    pub walk-next : {i : ℕ} (n : ℕ) → n ≡ length starts → getD links link 0 ≡ suc i → (pieceName l (getD starts i 0) ≡ pieceName l at → ⊥) → Walk l links starts k at h (n + 2 * i + way % 2) (way / 2)
+    pub walk-next : {i : ℕ} (n : ℕ) → n ≡ length starts → getD links link 0 ≡ suc i
+        → (pieceName l (getD starts i 0) ≡ pieceName l at → ⊥) → Walk l links starts k at h (n + 2 * i + way % 2) (way / 2)
     walk-next {i} n q v d = subst (λ (m : ℕ). Walk l links starts k at h (m + 2 * i + way % 2) (way / 2)) (sym q) (record {
       low = omega (arith, t .below link i v);
       ahead = λ j b q. found-past (w .ahead j b q) v (λ s. d (ap (λ (m : ℕ). pieceName l (getD starts m 0)) (sym s) ∙ q));
@@ -94,7 +96,8 @@ found-set : {links : List ℕ} {n at way i : ℕ} (e v : ℕ) → getD links e 0
 found-set {links} e v z f = record { link = f .link; comes = comes-set e v z (f .comes); is = other links e (f .link) v z (f .is) }
 
 -- an entry more
-module _ {l links starts : List ℕ} {k link : ℕ} (at : ℕ) (t : Table l links starts k) (r : k < length starts) (o : at < length l) (f : Free links (length starts) k (hashOf (pieceName l at)) link) where
+module _ {l links starts : List ℕ} {k link : ℕ} (at : ℕ) (t : Table l links starts k) (r : k < length starts) (o : at < length l)
+    (f : Free links (length starts) k (hashOf (pieceName l at)) link) where
   pub link-in : link < length links
   link-in = omega (arith, f .low, t .long)
 
@@ -105,7 +108,8 @@ module _ {l links starts : List ℕ} {k link : ℕ} (at : ℕ) (t : Table l link
   new-start i q = ap (λ (m : ℕ). getD (set starts k at) m 0) q ∙ getD-set-same starts k at 0 r
 
   covered : (i : ℕ) → i < k + 1
-      → Found (set links link (k + 1)) (length starts) (rootOf (length starts) (hashOf (pieceName l (getD (set starts k at) i 0)))) (wayOf (hashOf (pieceName l (getD (set starts k at) i 0)))) i
+      → Found (set links link (k + 1)) (length starts) (rootOf (length starts) (hashOf (pieceName l (getD (set starts k at) i 0))))
+      (wayOf (hashOf (pieceName l (getD (set starts k at) i 0)))) i
   covered i h = split-eq i k
       (λ q. rw (new-start i q) (record { link = link; comes = comes-set link (k + 1) (f .empty) (f .comes); is = omega (arith, new-link link refl) }))
       (λ q. rw (getD-set-other starts k i at 0 q) (found-set link (k + 1) (f .empty) (t .cover i (omega arith))))

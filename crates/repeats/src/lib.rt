@@ -163,7 +163,8 @@ fn insert(links: &mut [u16], starts: &mut [u32], count: usize, link: usize, far:
 
 // Gathers a block of the pieces from `from` on, until it is full or too long, or at `best`, or where a name stands in it.
 fn gather(pairs: &[u8], links: &mut [u16], starts: &mut [u32], from: usize, best: usize) -> Stop
-    requires { ⌜ Block (now pairs) (now links) (placed from (now starts)) 0 from from best × Distinct (now pairs) from best × Best (now pairs) best × (from < best) ⌝ }
+    requires { ⌜ Block (now pairs) (now links) (placed from (now starts)) 0 from from best
+        × Distinct (now pairs) from best × Best (now pairs) best × (from < best) ⌝ }
     ensures { λ r. ⌜ Gathered (now (pairs .entry)) (now (links .exit)) (placed from (now (starts .exit))) (r .count) from (r .at) best (r .hit) ⌝ }
 {
     let mut at = from;
@@ -205,7 +206,8 @@ fn look_ahead(
     mid: usize,
     best: usize,
 ) -> usize
-    requires { ⌜ Block (now pairs) (now links) (placed from (now starts)) count from mid best × Distinct (now pairs) from best × Best (now pairs) best × (from < mid) ⌝ }
+    requires { ⌜ Block (now pairs) (now links) (placed from (now starts)) count from mid best
+        × Distinct (now pairs) from best × Best (now pairs) best × (from < mid) ⌝ }
     ensures { λ r. ⌜ Turn (now (pairs .entry)) from best mid r ⌝ }
 {
     let mut at = mid;
@@ -222,7 +224,8 @@ fn look_ahead(
 
 // One block, in a table that is empty: its pieces are told apart, and the later ones up to `best` from them.
 fn turn(pairs: &[u8], links: &mut [u16], starts: &mut [u32], from: usize, best: usize) -> Turned
-    requires { ⌜ Block (now pairs) (now links) (placed from (now starts)) 0 from from best × Distinct (now pairs) from best × Best (now pairs) best × (from < best) ⌝ }
+    requires { ⌜ Block (now pairs) (now links) (placed from (now starts)) 0 from from best
+        × Distinct (now pairs) from best × Best (now pairs) best × (from < best) ⌝ }
     ensures { λ r. ⌜ Turn (now (pairs .entry)) from best (r .mid) (r .best) ⌝ }
 {
     let f = gather(pairs, links, starts, from, best);
@@ -268,7 +271,9 @@ fn turn_large(pairs: &[u8], from: usize, best: usize) -> Turned
     turn(pairs, &mut links, &mut starts, from, best)
 }
 
-// One block, with a table that suits the area. The first test never holds; it keeps the tables in frames of their own, since the compiler puts no large frame into a function that calls itself. So an area of up to 64 KiB takes less than 16 KiB of stack, and a larger one less than 64 KiB.
+// One block, with a table that suits the area. The first test never holds; it keeps the tables in frames of their own, since
+// the compiler puts no large frame into a function that calls itself. So an area of up to 64 KiB takes less than 16 KiB of
+// stack, and a larger one less than 64 KiB.
 fn turn_sized(pairs: &[u8], from: usize, best: usize) -> Turned
     requires { ⌜ Distinct (now pairs) from best × Best (now pairs) best × (from < best) × Start (now pairs) from ⌝ }
     ensures { λ r. ⌜ Turn (now (pairs .entry)) from best (r .mid) (r .best) ⌝ }

@@ -15,7 +15,9 @@ use Rattle.repeats.proofs.gather.Statement.{statement}
 use Rattle.repeats.proofs.gather.Tie as tie
 
 abbrev Inv-loop : tie.InvT-loop
-Inv-loop pairs links₀ starts₀ from best at₀ count₀ links starts at count = Block pairs links (placed from starts) count from at best × Distinct pairs from best × Best pairs best × (from < best) × (length links ≡ length links₀) × (length starts ≡ length starts₀)
+Inv-loop pairs links₀ starts₀ from best at₀ count₀ links starts at count =
+    Block pairs links (placed from starts) count from at best × Distinct pairs from best × Best pairs best × (from < best)
+    × (length links ≡ length links₀) × (length starts ≡ length starts₀)
 
 abbrev μ-loop : tie.MeasureT-loop
 μ-loop pairs links₀ starts₀ from best at₀ count₀ links starts at count = best - at
@@ -38,36 +40,47 @@ walk-requires c κs = (c .before .before .before .before .before .before .loop .
 
 insert-requires : tie.Need-insert-requires Inv-loop μ-loop
 insert-requires c κs =
-    let l = c .before .before .before .before .before .before .before .before .before .before in
+    let k = c .before .before .before .before .before .before .before .before in
+    let l = k .before .before in
     let t = l .loop .inv .0 in
     let n = long l in
     let w = subst (Walked _ _ _ _ _ _) (c .before .before .if4 .left) (c .before .before .before .walk .ensures) in (
-      c .before .before .before .before .before .before .before .before .if2 .left,
+      k .if2 .left,
       omega (arith, t .table .small),
-      link-in _ (t .table) (omega (arith, c .before .before .before .before .before .before .before .before .if2 .left)) (omega (arith, t .best-in, c .before .before .before .before .before .before .before .before .before .if1 .left)) (w .free refl),
+      link-in _ (t .table) (omega (arith, k .if2 .left)) (omega (arith, t .best-in, k .before .if1 .left)) (w .free refl),
       omega arith,
     )
 
 add-count : tie.Need-add-count Inv-loop μ-loop
-add-count c = let l = c .before .before .before .before .before .before .before .before .before .before .before .before .before .before .before in omega (arith, c .before .before .before .before .before .before .before .before .before .before .before .before .before .if2 .left, l .loop .inv .0 .table .small, long l)
+add-count c =
+    let k = c .before .before .before .before .before .before .before .before .before .before .before .before .before in
+    let l = k .before .before in
+    omega (arith, k .if2 .left, l .loop .inv .0 .table .small, long l)
 
 next-start-requires : tie.Need-next-start-requires Inv-loop μ-loop
-next-start-requires c κs = omega (arith, c .before .before .before .before .before .before .before .before .before .before .before .before .before .before .before .loop .inv .0 .best-in, c .before .before .before .before .before .before .before .before .before .before .before .before .before .before .if1 .left)
+next-start-requires c κs =
+    let k = c .before .before .before .before .before .before .before .before .before .before .before .before .before in
+    omega (arith, k .before .before .loop .inv .0 .best-in, k .before .if1 .left)
 
 loop-less : tie.Need-loop-less Inv-loop μ-loop
-loop-less c = omega (arith, c .next-start .ensures .falls, c .before .before .before .before .before .before .before .before .before .before .before .before .before .before .before .if1 .left)
+loop-less c =
+    let k = c .before .before .before .before .before .before .before .before .before .before .before .before .before .before in
+    omega (arith, c .next-start .ensures .falls, k .before .if1 .left)
 
 loop-again : tie.Need-loop-again Inv-loop μ-loop
 loop-again c =
-    let l = c .before .before .before .before .before .before .before .before .before .before .before .before .before .before .before .before in
+    let v = c .before .before .before .before .before .before .before .before in
+    let k = v .before .before .before .before .before .before in
+    let l = k .before .before in
     let a = l .before .before .before .before .args in
     let s = l .loop .inv in
     let n = long l in
-    let h = c .before .before .before .before .before .before .before .before .before .before .before .before .before .before .before .if1 .left in
+    let h = k .before .if1 .left in
     let e = c .before .before .before .before .before .insert .ensures in
-    let w = subst (Walked _ _ _ _ _ _) (c .before .before .before .before .before .before .before .before .if4 .left) (c .before .before .before .before .before .before .before .before .before .walk .ensures) in
-    let g = placed-more (a .from) (l .loop .starts) _ (l .loop .count) (l .loop .at) (s .0 .from-low) (e .1) in (
-      block-more (s .0) _ _ _ _ (s .1) h (omega (arith, c .before .before .before .before .before .before .before .before .before .before .before .before .before .before .if2 .left)) w (e .0) g (c .next-start .ensures) (next-low (c .next-start .ensures) h (s .0 .best-in) (best-start (s .2))),
+    let w = subst (Walked _ _ _ _ _ _) (v .if4 .left) (v .before .walk .ensures) in
+    let g = placed-more (a .from) (l .loop .starts) _ (l .loop .count) (l .loop .at) (s .0 .from-low) (e .1) in
+    let o = next-low (c .next-start .ensures) h (s .0 .best-in) (best-start (s .2)) in (
+      block-more (s .0) _ _ _ _ (s .1) h (omega (arith, k .if2 .left)) w (e .0) g (c .next-start .ensures) o,
       s .1,
       s .2,
       s .3,
@@ -109,7 +122,10 @@ same-length-8 : tie.Need-same-length-8 Inv-loop μ-loop
 same-length-8 c = c .before .before .before .before .before .before .before .before .loop .inv .5
 
 returns-4 : tie.Need-returns-4 Inv-loop μ-loop
-returns-4 c = let s = c .before .before .before .before .before .before .before .before .loop .inv in block-hit (s .0) (c .before .before .before .before .before .before .before .if1 .left) (subst (Walked _ _ _ _ _ _) (c .if4 .taken) (c .before .walk .ensures))
+returns-4 c =
+    let k = c .before .before .before .before .before .before in
+    let w = subst (Walked _ _ _ _ _ _) (c .if4 .taken) (c .before .walk .ensures) in
+    block-hit (k .before .before .loop .inv .0) (k .before .if1 .left) w
 
 pub gather-spec : {M : Type 1} → statement M
 gather-spec =

@@ -42,7 +42,13 @@ loop-less c = omega (arith, c .before .before .name-byte .ensures .within (omega
 
 loop-again : tie.Need-loop-again Inv-loop μ-loop
 unfolding mixed
-loop-again c = let s = c .before .before .before .loop in (mixed-fits (s .h) (c .byte .result) (s .inv .0) (c .byte .ensures .1), s .inv .1 ∙ hash-step (s .h) (c .before .before .name-byte .ensures) (c .before .if1 .left) ∙ ap (λ (z : ℕ). hashFrom (mixed (s .h) z) (pieceName (c .before .before .before .before .before .args .pairs .now) (s .i + 1))) (sym (c .byte .ensures .0)))
+loop-again c =
+    let s = c .before .before .before .loop in
+    let p = c .before .before .before .before .before .args .pairs .now in (
+      mixed-fits (s .h) (c .byte .result) (s .inv .0) (c .byte .ensures .1),
+      s .inv .1 ∙ hash-step (s .h) (c .before .before .name-byte .ensures) (c .before .if1 .left)
+          ∙ ap (λ (z : ℕ). hashFrom (mixed (s .h) z) (pieceName p (s .i + 1))) (sym (c .byte .ensures .0)),
+    )
 
 returns : tie.Need-returns Inv-loop μ-loop
 returns c = hash-is _ _ (c .before .before .loop .inv .1 ∙ hash-end (c .before .before .loop .h) (c .before .name-byte .ensures) (c .if1 .taken))

@@ -35,13 +35,19 @@ loop-less : tie.Need-loop-less Inv-loop μ-loop
 loop-less c = omega (arith, c .before .before .before .name-byte .ensures .within (omega arith))
 
 loop-again : tie.Need-loop-again Inv-loop μ-loop
-loop-again c = c .before .before .before .before .loop .inv ∙ bytes-same (c .before .before .before .name-byte .ensures) (c .before .before .name-byte2 .ensures) (c .before .if1 .left) (c .if2 .left)
+loop-again c =
+    let p = c .before .before .before .name-byte .ensures in
+    let q = c .before .before .name-byte2 .ensures in
+    c .before .before .before .before .loop .inv ∙ bytes-same p q (c .before .if1 .left) (c .if2 .left)
 
 returns : tie.Need-returns Inv-loop μ-loop
 returns c = sym (c .before .before .before .loop .inv ∙ bytes-differ (c .before .before .name-byte .ensures) (c .before .name-byte2 .ensures) (c .if1 .taken))
 
 returns-2 : tie.Need-returns-2 Inv-loop μ-loop
-returns-2 c = sym (c .before .before .before .before .loop .inv ∙ bytes-end (c .before .before .before .name-byte .ensures) (c .before .before .name-byte2 .ensures) (c .before .if1 .left) (c .if2 .taken))
+returns-2 c =
+    let p = c .before .before .before .name-byte .ensures in
+    let q = c .before .before .name-byte2 .ensures in
+    sym (c .before .before .before .before .loop .inv ∙ bytes-end p q (c .before .if1 .left) (c .if2 .taken))
 
 pub same-name-spec : {M : Type 1} → statement M
 same-name-spec =

@@ -13,18 +13,23 @@ use Rattle.repeats.proofs.walk.Statement.{statement}
 use Rattle.repeats.proofs.walk.Tie as tie
 
 abbrev Inv-loop : tie.InvT-loop
-Inv-loop pairs links starts count from at h link₀ way₀ link way = Table pairs links (placed from starts) count × (h ≡ hashOf (pieceName pairs at)) × Walk pairs links (placed from starts) count at h link way
+Inv-loop pairs links starts count from at h link₀ way₀ link way =
+    Table pairs links (placed from starts) count × (h ≡ hashOf (pieceName pairs at))
+    × Walk pairs links (placed from starts) count at h link way
 
 abbrev μ-loop : tie.MeasureT-loop
 μ-loop pairs links starts count from at h link₀ way₀ link way = length links - link
 
 -- the table has as many starts as are lent
-long : (s : tie.At-loop Inv-loop μ-loop) → length (placed (s .before .before .before .before .args .from) (s .before .before .before .before .args .starts .now)) ≡ length (s .before .before .before .before .args .starts .now)
+long : (s : tie.At-loop Inv-loop μ-loop)
+    → let a = s .before .before .before .before .args in
+    length (placed (a .from) (a .starts .now)) ≡ length (a .starts .now)
 long s = placed-length (s .before .before .before .before .args .from) (s .before .before .before .before .args .starts .now)
 
 -- the entry that a link leads to is one of those that are lent
 few : (e : tie.Else1 Inv-loop μ-loop)
-    → (e .before .wide .result - 1 < length (e .before .before .before .before .before .before .before .args .starts .now)) × (length (e .before .before .before .before .before .before .before .args .starts .now) < 65536)
+    → let n = length (e .before .before .before .before .before .before .before .args .starts .now) in
+    (e .before .wide .result - 1 < n) × (n < 65536)
 few e =
     let l = e .before .before .before in
     let t = l .loop .inv .0 in
@@ -32,14 +37,18 @@ few e =
 
 -- the start of an entry
 start : (s : tie.After-distance Inv-loop μ-loop)
-    → getD (placed (s .before .before .before .before .before .before .before .before .before .args .from) (s .before .before .before .before .before .before .before .before .before .args .starts .now)) (s .before .before .before .wide .result - 1) 0 ≡ s .before .before .before .before .before .before .before .before .before .args .from + s .distance .result
+    → let a = s .before .before .before .before .before .before .before .before .before .args in
+    getD (placed (a .from) (a .starts .now)) (s .before .before .before .wide .result - 1) 0 ≡ a .from + s .distance .result
 start s =
     let e = s .before .before in
     let a = e .before .before .before .before .before .before .before .args in
     placed-at (a .from) (a .starts .now) _ (few e .0) ∙ ap (λ (x : ℕ). a .from + x) (sym (s .distance .ensures))
 
 mul-link : tie.Need-mul-link Inv-loop μ-loop
-mul-link c = let s = c .before .before .before in omega (arith, scaled (s .args .h) (length (s .args .starts .now)), s .pre .0 .small, placed-length (s .args .from) (s .args .starts .now))
+mul-link c =
+    let s = c .before .before .before in
+    let a = s .args in
+    omega (arith, scaled (a .h) (length (a .starts .now)), s .pre .0 .small, placed-length (a .from) (a .starts .now))
 
 loop-holds : tie.Need-loop-holds Inv-loop μ-loop
 unfolding rootOf wayOf
@@ -87,14 +96,24 @@ add-link-2 : tie.Need-add-link-2 Inv-loop μ-loop
 add-link-2 c = omega (arith, few (c .before .before .before .before))
 
 loop-less : tie.Need-loop-less Inv-loop μ-loop
-loop-less c = let e = c .before .before .before .before in let l = e .before .before .before in omega (arith, l .loop .inv .0 .long, l .loop .inv .0 .room, long l, l .loop .inv .2 .low, l .loop .inv .0 .onward _ _ (next-is (e .before .wide .ensures) (e .if1 .left)))
+loop-less c =
+    let e = c .before .before .before .before in
+    let l = e .before .before .before in
+    let t = l .loop .inv in
+    let n = next-is (e .before .wide .ensures) (e .if1 .left) in
+    omega (arith, t .0 .long, t .0 .room, long l, t .2 .low, t .0 .onward _ _ n)
 
 loop-again : tie.Need-loop-again Inv-loop μ-loop
 loop-again c =
     let e = c .before .before .before .before in
     let l = e .before .before .before in
     let t = l .loop .inv in
-    (t .0, t .1, walk-next (t .0) (t .2) _ (sym (long l)) (next-is (e .before .wide .ensures) (e .if1 .left)) (λ q. same-not _ _ (sym (c .before .same-name .ensures) ∙ c .if2 .left) (ap (pieceName _) (sym (start (c .before .before))) ∙ q)))
+    let n = next-is (e .before .wide .ensures) (e .if1 .left) in (
+      t .0,
+      t .1,
+      walk-next (t .0) (t .2) _ (sym (long l)) n
+          (λ q. same-not _ _ (sym (c .before .same-name .ensures) ∙ c .if2 .left) (ap (pieceName _) (sym (start (c .before .before))) ∙ q)),
+    )
 
 returns : tie.Need-returns Inv-loop μ-loop
 returns c = let t = c .before .before .before .loop .inv in walk-end (t .0) (t .2) (t .1) (sym (c .before .wide .ensures) ∙ c .if1 .taken)
@@ -103,7 +122,8 @@ returns-2 : tie.Need-returns-2 Inv-loop μ-loop
 returns-2 c =
     let e = c .before .before .before .before in
     let t = e .before .before .before .loop .inv in
-    walk-hit (t .0) (t .2) (next-is (e .before .wide .ensures) (e .if1 .left)) (ap (pieceName _) (start (c .before .before)) ∙ same-true _ _ (sym (c .before .same-name .ensures) ∙ c .if2 .taken))
+    walk-hit (t .0) (t .2) (next-is (e .before .wide .ensures) (e .if1 .left))
+    (ap (pieceName _) (start (c .before .before)) ∙ same-true _ _ (sym (c .before .same-name .ensures) ∙ c .if2 .taken))
 
 pub walk-spec : {M : Type 1} → statement M
 walk-spec =

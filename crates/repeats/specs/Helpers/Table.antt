@@ -34,7 +34,8 @@ rootOf n h = h % 65536 * n / 65536
 unfoldable pub wayOf : ℕ → ℕ
 wayOf h = h / 65536
 
--- the walk from a link by these bits comes to the link s. A link is 0, or one above the entry that it leads to; the links of the n trees come first, then two for each entry
+-- the walk from a link by these bits comes to the link s. A link is 0, or one above the entry that it leads to; the links of the
+-- n trees come first, then two for each entry
 pub data Comes (links : List ℕ) (n s : ℕ) : ℕ → ℕ → Type 0 where
   here : {way : ℕ} → Comes links n s s way
   there : {at way j : ℕ} → getD links at 0 ≡ suc j → Comes links n s (n + 2 * j + way % 2) (way / 2) → Comes links n s at way
@@ -54,7 +55,9 @@ pub record Table (l links starts : List ℕ) (k : ℕ) : Type 0 where
   pub inside : (i : ℕ) → i < k → getD starts i 0 < length l
   pub below : (at j : ℕ) → getD links at 0 ≡ suc j → j < k
   pub onward : (at j : ℕ) → getD links at 0 ≡ suc j → at < length starts + 2 * j
-  pub cover : (i : ℕ) → i < k → Found links (length starts) (rootOf (length starts) (hashOf (pieceName l (getD starts i 0)))) (wayOf (hashOf (pieceName l (getD starts i 0)))) i
+  pub cover : (i : ℕ) → i < k
+      → Found links (length starts) (rootOf (length starts) (hashOf (pieceName l (getD starts i 0))))
+      (wayOf (hashOf (pieceName l (getD starts i 0)))) i
 
 -- an entry of the table has the name that stands at `at`
 pub record Hit (l starts : List ℕ) (k at : ℕ) : Type 0 where
