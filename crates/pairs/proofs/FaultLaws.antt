@@ -18,7 +18,8 @@ use Rattle.pairs.specs.Scan.{Stand, cut, wrongName, wrongEscape}
 use Rattle.pairs.specs.Area.{Pair, pairOf, pairsBytes, stands, Parse, faulty, firstPair, onStand, parseFrom, parse}
 use Rattle.pairs.specs.Rules.{Entry, In, sizes, CutOff, in-name, in-value, in-escape, FaultAt, seven, eight, nine, ten, Faulty}
 use Rattle.pairs.proofs.ScanLaws.{Standing, a-pair, the-end, cut-name, cut-value, cut-escape, a-wrong-name, a-wrong-escape, standing}
-use Rattle.pairs.proofs.ParseLaws.{Good, none, more, length-whole, length-pairs, pair-front, parseRest, parse-start, parse-standing, parse-pair, first-faulty, every-left, every-right}
+use Rattle.pairs.proofs.ParseLaws.{Good, none, more, length-whole, length-pairs, pair-front, parseRest}
+use Rattle.pairs.proofs.ParseLaws.{parse-start, parse-standing, parse-pair, first-faulty, every-left, every-right}
 use Rattle.pairs.proofs.StandsLaws.{names, stands-first, stands-other}
 use Rattle.pairs.proofs.EntryLaws.{entriesOf, sizes-pairs, names-entries, in-exactly, good-each, good-once, pairs-of, of-pairs, once-good}
 

@@ -92,7 +92,9 @@ module _ (l : List ℕ) (at : ℕ) (seen : List (List ℕ)) (name stored m : Lis
   unfolding repeatIn
   piece-hit t = ap (repeatIn l seen) piece-starts ∙ rw (piece-name, t, repeatIn)
 
-  piece-miss : stands name seen ≡ false → repeatIn l seen (startsFrom true at (pairBytes (pairOf name stored) ++ m)) ≡ repeatIn l (name ∷ seen) (startsFrom true past m)
+  piece-miss : stands name seen ≡ false
+      → repeatIn l seen (startsFrom true at (pairBytes (pairOf name stored) ++ m))
+      ≡ repeatIn l (name ∷ seen) (startsFrom true past m)
   unfolding repeatIn
   piece-miss t =
       ap (repeatIn l seen) piece-starts ∙ rw (piece-name, t, repeatIn) (ap (λ (n : List ℕ). repeatIn l (n ∷ seen) (startsFrom true past m)) piece-name)

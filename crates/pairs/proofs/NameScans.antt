@@ -278,6 +278,7 @@ scan-check b bs = go (scanNameFrom 0 (b ∷ bs)) refl
     go short e =
         let n = name-short-from 0 (b ∷ bs) (omega arith) e in
         let s : storedName (b ∷ bs) ≡ b ∷ bs =
-        ap storedName (sym (append-nil (b ∷ bs))) ∙ stored-append (b ∷ bs) [] (n .allowed) ∙ ap (λ (l : List ℕ). b ∷ (bs ++ l)) stored-none ∙ append-nil (b ∷ bs) in
+        ap storedName (sym (append-nil (b ∷ bs))) ∙ stored-append (b ∷ bs) [] (n .allowed)
+        ∙ ap (λ (l : List ℕ). b ∷ (bs ++ l)) stored-none ∙ append-nil (b ∷ bs) in
         let r : NameRule (b ∷ bs) = record { least = omega arith; most = omega (arith, n .most); each = n .allowed } in
         scan-good (b ∷ bs) (b ∷ bs) s (good-32 r) ∙ ap (pastName (b ∷ bs)) (drop-of-length-le (b ∷ bs) {i = length (b ∷ bs)} (omega arith))

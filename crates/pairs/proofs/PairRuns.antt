@@ -13,7 +13,8 @@ use Rattle.pairs.proofs.PairPlaces.{Goes, NotZero, pair-here, PairSeen}
 -- l is these pairs and then rest
 pub data PairRun : List Pair → List ℕ → List ℕ → Type 0 where
   none : {rest : List ℕ} → PairRun [] rest rest
-  more : {name stored l next rest : List ℕ} {ps : List Pair} → standAt l ≡ pair name stored next → PairRun ps next rest → PairRun (pairOf name stored ∷ ps) l rest
+  more : {name stored l next rest : List ℕ} {ps : List Pair} → standAt l ≡ pair name stored next → PairRun ps next rest
+      → PairRun (pairOf name stored ∷ ps) l rest
 
 pub pair-bytes : (name stored rest : List ℕ) → pairBytes (pairOf name stored) ++ rest ≡ name ++ 0x3D ∷ (stored ++ 0x00 ∷ rest)
 unfolding pairBytes

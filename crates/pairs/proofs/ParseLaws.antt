@@ -159,7 +159,8 @@ read-on seen at past ps go (cut-escape stored r v) e k = clash (cc)
 read-on seen at past ps go (a-wrong-name rest a l w z) e k = clash (cc)
 read-on seen at past ps go (a-wrong-escape stored rest r v w) e k = clash (cc)
 
-print-from : (fuel : ℕ) (seen : List (List ℕ)) (at past : ℕ) (area : List ℕ) (ps : List Pair) → parseFrom fuel seen at past area ≡ parsed ps → ReadFrom seen area ps
+print-from : (fuel : ℕ) (seen : List (List ℕ)) (at past : ℕ) (area : List ℕ) (ps : List Pair)
+    → parseFrom fuel seen at past area ≡ parsed ps → ReadFrom seen area ps
 unfolding parseFrom
 print-from zero seen at past area ps e = clash (cc)
 print-from (suc fuel) seen at past area ps e =

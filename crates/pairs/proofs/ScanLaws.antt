@@ -15,7 +15,8 @@ use Rattle.values.specs.Value.{spelled, spelledFrom}
 use Rattle.pairs.specs.Scan.{Scan, ends, bad, short, and, scanValue, Stand, pair, finish, cut, wrongName, wrongEscape, onValue, onName, standAt}
 use Rattle.pairs.specs.Rules.{BadByte}
 use Rattle.pairs.specs.Helpers.{scanNameFrom}
-use Rattle.pairs.proofs.NameScans.{and-ends, and-short, and-bad, bad-is, scan-name, name-scan, ScannedWrong, name-bad-from, bad-name-from, name-short-from, short-name-from, scan-check}
+use Rattle.pairs.proofs.NameScans.{and-ends, and-short, and-bad, bad-is, scan-name, name-scan, ScannedWrong}
+use Rattle.pairs.proofs.NameScans.{name-bad-from, bad-name-from, name-short-from, short-name-from, scan-check}
 
 -- ---- a stored value, byte by byte; after: the byte before was an escape's 0xFF
 

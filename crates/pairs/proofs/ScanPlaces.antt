@@ -59,7 +59,8 @@ module _ {area : List ℕ} {from i : ℕ} (s : NameScan area from i) where
     unfolding scanNameFrom endOf
     name-long b e =
         let p : from + (i - from) ≡ i = omega (arith, s .low) in
-        sym (s .left ∙ rw (drop-next area i h, ne-eqb (getD area i 0) 61 b, le-ltb (i - from) 31 e, and-false (nameByte (getD area i 0)), scanNameFrom) (ap Wrong p))
+        let a = and-false (nameByte (getD area i 0)) in
+        sym (s .left ∙ rw (drop-next area i h, ne-eqb (getD area i 0) 61 b, le-ltb (i - from) 31 e, a, scanNameFrom) (ap Wrong p))
 
     name-wrong : (getD area i 0 ≡ 61 → ⊥) → nameByte (getD area i 0) ≡ false → Wrong i ≡ endOf from from (scanNameFrom 0 (drop from area))
     unfolding scanNameFrom endOf
@@ -76,7 +77,8 @@ module _ {area : List ℕ} {from i : ℕ} (s : NameScan area from i) where
           left =
               s .left
               ∙ rw (drop-next area i h, ne-eqb (getD area i 0) 61 b, e, lt-ltb (i - from) 31 k, scanNameFrom)
-              (end-and from i (getD area i 0) (scanNameFrom (i - from + 1) (drop (i + 1) area)) ∙ ap (λ (n : ℕ). endOf from (i + 1) (scanNameFrom n (drop (i + 1) area))) p);
+              (end-and from i (getD area i 0) (scanNameFrom (i - from + 1) (drop (i + 1) area))
+              ∙ ap (λ (n : ℕ). endOf from (i + 1) (scanNameFrom n (drop (i + 1) area))) p);
         }
 
 -- a byte that a name may hold is not `=`
@@ -148,7 +150,8 @@ module _ {area : List ℕ} {from i : ℕ} (s : ValueScan area from false i) (h :
         left =
             s .left
             ∙ rw (drop-next area i h, ne-eqb (getD area i 0) 0 b, e, scanValue)
-            (end-and from i (getD area i 0) (scanValue t (i - from + 1) (drop (i + 1) area)) ∙ ap (λ (n : ℕ). endOf from (i + 1) (scanValue t n (drop (i + 1) area))) p);
+            (end-and from i (getD area i 0) (scanValue t (i - from + 1) (drop (i + 1) area))
+            ∙ ap (λ (n : ℕ). endOf from (i + 1) (scanValue t n (drop (i + 1) area))) p);
       }
 
   pub value-next : (getD area i 0 ≡ 0 → ⊥) → (getD area i 0 ≡ 255 → ⊥) → ValueScan area from false (i + 1)
@@ -194,5 +197,6 @@ module _ {area : List ℕ} {from i : ℕ} (s : ValueScan area from true i) (h : 
         left =
             s .left
             ∙ rw (drop-next area i h, ne-eqb (getD area i 0) 0 (λ z. b (omega arith)), ne-eqb (getD area i 0) 128 (λ z. b (omega arith)), scanValue)
-            (end-and from i (getD area i 0) (scanValue false (i - from + 1) (drop (i + 1) area)) ∙ ap (λ (n : ℕ). endOf from (i + 1) (scanValue false n (drop (i + 1) area))) p);
+            (end-and from i (getD area i 0) (scanValue false (i - from + 1) (drop (i + 1) area))
+            ∙ ap (λ (n : ℕ). endOf from (i + 1) (scanValue false n (drop (i + 1) area))) p);
       }

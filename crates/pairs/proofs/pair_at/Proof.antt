@@ -14,13 +14,17 @@ use Rattle.pairs.proofs.pair_at.Statement.{statement}
 use Rattle.pairs.proofs.pair_at.Tie as tie
 
 -- the name ends at n
-named : (s : tie.After-n) → NameEnd (s .before .before .before .before .before .before .before .args .area .now) (s .before .before .before .before .before .before .before .args .at) (s .n .given .0 .0)
+named : (s : tie.After-n)
+    → let a = s .before .before .before .before .before .before .before .args in
+    NameEnd (a .area .now) (a .at) (s .n .given .0 .0)
 named s = name-end _ _ _ (sym (s .n .given .1) ∙ s .before .before .scan-name .ensures)
 
 -- and what the scan of the value answers decides
 valued : (s : tie.After-n) (x : ScanEnd)
-    → x ≡ endOf (s .n .given .0 .0 + 1) (s .n .given .0 .0 + 1) (scanValue false 0 (drop (s .n .given .0 .0 + 1) (s .before .before .before .before .before .before .before .args .area .now)))
-    → byValue (s .n .given .0 .0) x ≡ placeOf (s .before .before .before .before .before .before .before .args .at) (standAt (drop (s .before .before .before .before .before .before .before .args .at) (s .before .before .before .before .before .before .before .args .area .now)))
+    → let a = s .before .before .before .before .before .before .before .args in
+    let n = s .n .given .0 .0 in
+    x ≡ endOf (n + 1) (n + 1) (scanValue false 0 (drop (n + 1) (a .area .now)))
+    → byValue n x ≡ placeOf (a .at) (standAt (drop (a .at) (a .area .now)))
 valued s x e = stand-value _ _ (search needs) (s .before .before .before .if2 .left) _ (named s) x e
 
 returns : tie.Need-returns
@@ -63,16 +67,22 @@ returns-3 : tie.Need-returns-3
 returns-3 c = stand-cut _ _ (search needs) (c .before .before .before .if2 .left) (sym (c .enum-told .given .1) ∙ c .before .before .scan-name .ensures)
 
 returns-4 : tie.Need-returns-4
-returns-4 c = stand-wrong _ _ (search needs) (c .before .before .before .before .if2 .left) _ (sym (c .before .k .given .1) ∙ c .before .before .before .scan-name .ensures)
+returns-4 c =
+    stand-wrong _ _ (search needs) (c .before .before .before .before .if2 .left) _
+    (sym (c .before .k .given .1) ∙ c .before .before .before .scan-name .ensures)
 
 returns-5 : tie.Need-returns-5
 returns-5 c = valued (c .before .before .before .before) Cut (sym (c .enum-told2 .given .1) ∙ c .before .before .scan-value .ensures)
 
 returns-6 : tie.Need-returns-6
-returns-6 c = valued (c .before .before .before .before .before) (Wrong (c .before .k2 .given .0 .0)) (sym (c .before .k2 .given .1) ∙ c .before .before .before .scan-value .ensures)
+returns-6 c =
+    let s = c .before .before .before in
+    valued (s .before .before) (Wrong (c .before .k2 .given .0 .0)) (sym (c .before .k2 .given .1) ∙ s .scan-value .ensures)
 
 returns-7 : tie.Need-returns-7
-returns-7 c = valued (c .before .before .before .before .before) (At (c .before .v .given .0 .0)) (sym (c .before .v .given .1) ∙ c .before .before .before .scan-value .ensures)
+returns-7 c =
+    let s = c .before .before .before in
+    valued (s .before .before) (At (c .before .v .given .0 .0)) (sym (c .before .v .given .1) ∙ s .scan-value .ensures)
 
 pub pair-at-spec : {M : Type 1} → statement M
 pair-at-spec =

@@ -1,4 +1,5 @@
--- `pairs::scan` meets its contract. The invariants: complete pairs stand before `at`, so many as are counted, the search for the name goes on there, and the two names agree for k bytes.
+-- `pairs::scan` meets its contract. The invariants: complete pairs stand before `at`, so many as are counted, the search for the
+-- name goes on there, and the two names agree for k bytes.
 use Prim.Native.Nat.{ℕ, _-_}
 use mathlib.Core.Path.{_≡_, sym, ap, _∙_}
 use mathlib.Core.Logic.{_⊎_, ⊎-elim}
@@ -11,7 +12,8 @@ use Rattle.pairs.proofs.PairAt.{the-type}
 use Rattle.pairs.proofs.PairPlaces.{PairSeen, pair-seen}
 use Rattle.pairs.proofs.PairRuns.{Walked, walked-none, walked-more}
 use Rattle.pairs.proofs.JoinLaws.{walked-end}
-use Rattle.pairs.proofs.FindPlaces.{Finding, finding-none, finding-end, finding-same, finding-next, Compared, other-length, compared-none, compared-same, compared-other, compared-all}
+use Rattle.pairs.proofs.FindPlaces.{Finding, finding-none, finding-end, finding-same, finding-next, Compared}
+use Rattle.pairs.proofs.FindPlaces.{other-length, compared-none, compared-same, compared-other, compared-all}
 use borrow.Author.Needs.{needs}
 use Rattle.pairs.proofs.scan.Statement.{statement}
 use Rattle.pairs.proofs.scan.Tie as tie
@@ -35,7 +37,8 @@ abbrev μ-pairs : tie.MeasureT-pairs
 
 -- the pair that stands at `at`
 seen : (s : tie.After-seen Inv-loop μ-loop Inv-pairs μ-pairs)
-    → PairSeen (s .before .before .before .before .before .before .args .area .now) (s .before .before .before .pairs .at) (s .seen .given .0 .0) (s .seen .given .0 .1 .0)
+    → let p = s .before .before .before in
+    PairSeen (p .before .before .before .args .area .now) (p .pairs .at) (s .seen .given .0 .0) (s .seen .given .0 .1 .0)
 seen s = pair-seen _ _ _ _ (sym (s .seen .given .1) ∙ s .before .before .pair-at .ensures)
 
 pairs-holds : tie.Need-pairs-holds Inv-loop μ-loop Inv-pairs μ-pairs
@@ -89,8 +92,10 @@ pairs-less-2 c = omega (arith, seen (c .before .before .before .before .before .
 pairs-again-2 : tie.Need-pairs-again-2 Inv-loop μ-loop Inv-pairs μ-pairs
 pairs-again-2 c =
     let s = c .before .before .before .before .before .before .before in
-    let v = s .before .before .before .pairs .inv in
-    (walked-more (v .0) _ _ (seen s), finding-next (v .1) (seen s) (compared-other (c .before .before .before .before .loop .inv) (search needs) (c .if2 .taken)))
+    let v = s .before .before .before .pairs .inv in (
+      walked-more (v .0) _ _ (seen s),
+      finding-next (v .1) (seen s) (compared-other (c .before .before .before .before .loop .inv) (search needs) (c .if2 .taken)),
+    )
 
 add-k : tie.Need-add-k Inv-loop μ-loop Inv-pairs μ-pairs
 add-k c = search needs
@@ -119,8 +124,10 @@ returns : tie.Need-returns Inv-loop μ-loop Inv-pairs μ-pairs
 returns c =
     let p = c .before .before .before in
     let v = p .before .pairs .inv in
-    let n = not-pair (p .pair-at .result) (c .before .before .match .keys2) in
-    walked-end (v .0) _ (p .pair-at .result) (p .pair-at .ensures) n _ _ (c .before .closed .ensures) (c .or-repeat .ensures) _ (finding-end (v .1) (p .pair-at .result) (p .pair-at .ensures) n)
+    let r = p .pair-at in
+    let n = not-pair (r .result) (c .before .before .match .keys2) in
+    walked-end (v .0) _ (r .result) (r .ensures) n _ _ (c .before .closed .ensures) (c .or-repeat .ensures) _
+    (finding-end (v .1) (r .result) (r .ensures) n)
 
 pub scan-spec : {M : Type 1} → statement M
 scan-spec =

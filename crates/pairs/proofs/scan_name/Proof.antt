@@ -26,10 +26,14 @@ returns-3 : tie.Need-returns-3
 returns-3 c = end-wrong _ _ _ (c .before .before .before .before .name-end .ensures) (search needs) (search needs) (c .if3 .taken)
 
 returns-4 : tie.Need-returns-4
-returns-4 c = end-empty _ _ _ (c .before .before .before .before .before .name-end .ensures) (search needs) (search needs) (c .before .if3 .left) (c .if4 .taken)
+returns-4 c =
+    let e = c .before .before .before .before .before .name-end .ensures in
+    end-empty _ _ _ e (search needs) (search needs) (c .before .if3 .left) (c .if4 .taken)
 
 returns-5 : tie.Need-returns-5
-returns-5 c = end-name _ _ _ (c .before .before .before .before .before .name-end .ensures) (search needs) (search needs) (c .before .if3 .left) (c .if4 .left)
+returns-5 c =
+    let e = c .before .before .before .before .before .name-end .ensures in
+    end-name _ _ _ e (search needs) (search needs) (c .before .if3 .left) (c .if4 .left)
 
 pub scan-name-spec : {M : Type 1} → statement M
 scan-name-spec =

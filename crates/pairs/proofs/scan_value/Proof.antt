@@ -15,11 +15,16 @@ abbrev μ-loop : tie.MeasureT-loop
 μ-loop area from i₀ i = length area - i
 
 -- the scan goes on at the first 0x00 or 0xFF
-skipped : (s : tie.After-find-either Inv-loop μ-loop) → ValueScan (s .before .before .before .args .area .now) (s .before .before .before .args .from) false (s .find-either .result)
+skipped : (s : tie.After-find-either Inv-loop μ-loop)
+    → let a = s .before .before .before .args in
+    ValueScan (a .area .now) (a .from) false (s .find-either .result)
 skipped s = value-skip (s .before .loop .inv) _ (s .find-either .ensures)
 
 -- past the first byte of an escape
-marked : (s : tie.Else2 Inv-loop μ-loop) → ValueScan (s .before .before .before .before .before .before .args .area .now) (s .before .before .before .before .before .before .args .from) true (s .before .before .before .find-either .result + 1)
+marked : (s : tie.Else2 Inv-loop μ-loop)
+    → let f = s .before .before .before in
+    let a = f .before .before .before .args in
+    ValueScan (a .area .now) (a .from) true (f .find-either .result + 1)
 marked s =
     let f = s .before .before .before in
     value-mark (f .before .loop .inv) _ (f .find-either .ensures) (s .before .before .if1 .left) (s .if2 .left)
@@ -58,7 +63,10 @@ returns-3 : tie.Need-returns-3 Inv-loop μ-loop
 returns-3 c = value-cut (marked (c .before)) (search needs)
 
 returns-4 : tie.Need-returns-4 Inv-loop μ-loop
-returns-4 c = escape-wrong (marked (c .before .before .before)) (search needs) (omega (arith, c .before .shared-slice-known3 .given (c .before .before .before .before .before .before .find-either .result + 1))) (c .if4 .taken)
+returns-4 c =
+    let s = c .before .before .before in
+    let i = s .before .before .before .find-either .result in
+    escape-wrong (marked s) (search needs) (omega (arith, c .before .shared-slice-known3 .given (i + 1))) (c .if4 .taken)
 
 pub scan-value-spec : {M : Type 1} → statement M
 scan-value-spec =
