@@ -17,7 +17,8 @@ use Rattle.pairs.specs.Area.{Pair, pairsBytes, Parse, parsed, faulty, parse}
 use Rattle.variables.specs.Edits.{areaBytes, setPair, removePair, normalizePairs, Lookup, found, missing, lookup}
 use Rattle.pairs.proofs.FaultLaws.{fault-inside}
 use Rattle.variables.specs.Helpers.{replyOffset}
-use Rattle.variables.specs.Calls.{Action, setTo, removal, readInto, Call, named, set, remove, normalize, read, count, callCheck, done, Outcome, refuse, edited, setIn, callPairs, callBy, callArea}
+use Rattle.variables.specs.Calls.{Action, setTo, removal, readInto, Call, named, set, remove, normalize, read, count}
+use Rattle.variables.specs.Calls.{callCheck, done, Outcome, refuse, edited, setIn, callPairs, callBy, callArea}
 
 -- ---- the caller's name
 

@@ -26,7 +26,8 @@ use Rattle.pairs.specs.declared.Place.the-variants.{At, None}
 use Rattle.pairs.specs.Scan.{Stand, pair, finish, cut, wrongName, wrongEscape, standAt}
 use Rattle.pairs.specs.Area.{Pair, pairsBytes, Parse, parsed, faulty, parse}
 use Rattle.variables.specs.Edits.{areaBytes, setPair, Lookup, found, missing, lookup}
-use Rattle.variables.specs.Calls.{Action, readInto, Call, named, set, count, read, callCheck, Reply, done, refused, Outcome, refuse, edited, setIn, readBy, callPairs, callBy, callArea}
+use Rattle.variables.specs.Calls.{Action, readInto, Call, named, set, count, read, callCheck, Reply, done}
+use Rattle.variables.specs.Calls.{refused, Outcome, refuse, edited, setIn, readBy, callPairs, callBy, callArea}
 use Rattle.pairs.specs.Helpers.{scannedOf, onFind, findFrom, findAt}
 use Rattle.variables.specs.Helpers.{namedScan, Sought, valueAt, pairRead}
 use Rattle.pairs.proofs.PairPlaces.{pair-here}
@@ -109,7 +110,8 @@ pub set-makes : (name value : List ℕ) (ps qs : List Pair) (area : List ℕ) �
     ≡ cond (ltb (length area) (length (pairsBytes qs) + 1)) (refuse NoAreaRoom (set name value) area) (edited (areaBytes (length area) qs))
 unfolding callPairs setIn
 set-makes name value ps qs area s =
-    ap (λ (l : List Pair). cond (ltb (length area) (length (pairsBytes l) + 1)) (refuse NoAreaRoom (set name value) area) (edited (areaBytes (length area) l))) s
+    ap (λ (l : List Pair). cond (ltb (length area) (length (pairsBytes l) + 1)) (refuse NoAreaRoom (set name value) area)
+    (edited (areaBytes (length area) l))) s
 
 -- ---- count
 

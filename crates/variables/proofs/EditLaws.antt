@@ -221,7 +221,8 @@ bytes-set {name = name} value n v (more {p = p} {ps = ps} np vp sp g) h =
     (λ t. rw (set-first name p ps t value) (bytes-more (canonicalPair name value) ps n (bytes-encode value v) (b .1)))
     (λ t. rw (set-next name p ps t value) (bytes-more p (setPair name value ps) np (b .0) (bytes-set value n v g (b .1))))
 
-pub bytes-remove : {seen : List (List ℕ)} {ps : List Pair} (name : List ℕ) → Good seen ps → AllBytes (pairsBytes ps) → AllBytes (pairsBytes (removePair name ps))
+pub bytes-remove : {seen : List (List ℕ)} {ps : List Pair} (name : List ℕ) → Good seen ps → AllBytes (pairsBytes ps)
+    → AllBytes (pairsBytes (removePair name ps))
 unfolding removePair
 bytes-remove name none h = h
 bytes-remove name (more {p = p} {ps = ps} n v s g) h =

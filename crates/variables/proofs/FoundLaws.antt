@@ -32,7 +32,8 @@ pub record Ended (ps : List Pair) (l : List ℕ) : Type 0 where
 ended-none : (ps : List Pair) (l : List ℕ) → standAt l ≡ finish → parsed [] ≡ parsed ps → Ended ps l
 ended-none ps l s e = let f : [] ≡ ps = cc in record { rest = l; run = subst (λ (qs : List Pair). PairRun qs l l) f none; stop = s }
 
-ended-more : (ps qs : List Pair) (l name stored next : List ℕ) → standAt l ≡ pair name stored next → parsed (pairOf name stored ∷ qs) ≡ parsed ps → Ended qs next → Ended ps l
+ended-more : (ps qs : List Pair) (l name stored next : List ℕ) → standAt l ≡ pair name stored next
+    → parsed (pairOf name stored ∷ qs) ≡ parsed ps → Ended qs next → Ended ps l
 ended-more ps qs l name stored next s e r =
     let f : pairOf name stored ∷ qs ≡ ps = cc in
     record { rest = r .rest; run = subst (λ (xs : List Pair). PairRun xs l (r .rest)) f (more s (r .run)); stop = r .stop }
@@ -45,7 +46,8 @@ parsed-from (suc n) seen at past l ps e = go (standAt l) refl e (parsed-from n)
     Rest : Type 0
     Rest = (seen : List (List ℕ)) (at past : ℕ) (l : List ℕ) (ps : List Pair) → parseFrom n seen at past l ≡ parsed ps → Ended ps l
 
-    by : Rest → (name stored next : List ℕ) → standAt l ≡ pair name stored next → (x : Parse) → parseFrom n (name ∷ seen) (at + length name + length stored + 2) past next ≡ x
+    by : Rest → (name stored next : List ℕ) → standAt l ≡ pair name stored next → (x : Parse)
+        → parseFrom n (name ∷ seen) (at + length name + length stored + 2) past next ≡ x
         → firstPair (pairOf name stored) x ≡ parsed ps → Ended ps l
     by ih name stored next s (faulty g k) q f = clash cc
     by ih name stored next s (parsed qs) q f =
@@ -220,7 +222,9 @@ module _ {name : List ℕ} {ps : List Pair} {start equals end : ℕ} (f : FoundA
   found-stored =
       let w : List ℕ = pairsBytes (f .before) ++ (name ++ 0x3D ∷ []) in
       let v : List ℕ = f .stored ++ 0x00 ∷ (pairsBytes (f .after) ++ r .rest) in
-      let e : area ≡ w ++ v = found-bytes ∙ sym (append-assoc (pairsBytes (f .before)) (name ++ 0x3D ∷ []) v ∙ ap (λ (l : List ℕ). pairsBytes (f .before) ++ l) (append-assoc name (0x3D ∷ []) v)) in
+      let e : area ≡ w ++ v =
+      found-bytes ∙ sym (append-assoc (pairsBytes (f .before)) (name ++ 0x3D ∷ []) v
+      ∙ ap (λ (l : List ℕ). pairsBytes (f .before) ++ l) (append-assoc name (0x3D ∷ []) v)) in
       let n : length w ≡ equals + 1 =
       omega (arith, length-append (pairsBytes (f .before)) (name ++ 0x3D ∷ []), length-append name (0x3D ∷ []), f .start-is, f .equals-is) in
       let k : length (f .stored) ≡ end - (equals + 1) = omega (arith, f .end-is) in

@@ -234,7 +234,9 @@ unfolding normalizePairs pairsBytes pairBytes
 pairs-canonical [] b = CanonicalPairs.none
 pairs-canonical (p ∷ ps) b =
     let k = bytes-pairs p ps b in
-    CanonicalPairs.more (canonical-exactly (decode (p .stored)) (encode (decode (p .stored))) (bytes-decode (p .stored) (k .0)) .1 refl) (pairs-canonical ps (k .1))
+    CanonicalPairs.more
+    (canonical-exactly (decode (p .stored)) (encode (decode (p .stored))) (bytes-decode (p .stored) (k .0)) .1 refl)
+    (pairs-canonical ps (k .1))
 
 normalize-leaves-is : {area area′ : List ℕ} {ps : List Pair} → AllBytes area → parse area ≡ parsed ps → NormalizeLeaves area area′
     → area′ ≡ areaBytes (length area) (normalizePairs ps)

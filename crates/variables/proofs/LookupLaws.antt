@@ -79,7 +79,8 @@ shortest-encode v b = record { stored = encode v; spells = spells-encode v b; lo
 set-size : (name value : List ℕ) (ps : List Pair) → AllBytes value → SetSize name value (entriesOf ps) (length (pairsBytes (setPair name value ps)))
 unfolding setPair pairsBytes
 set-size name value [] b =
-    let q : length (pairsBytes (canonicalPair name value ∷ [])) ≡ length name + length (encode value) + 2 = omega (arith, length-pairs (canonicalPair name value) []) in
+    let q : length (pairsBytes (canonicalPair name value ∷ [])) ≡ length name + length (encode value) + 2 =
+    omega (arith, length-pairs (canonicalPair name value) []) in
     rw q (added (shortest-encode value b))
 set-size name value (p ∷ ps) b =
     split (sameBytes name (p .name))

@@ -40,7 +40,8 @@ returns-2 c =
     let p = q .before .before .before in
     let g = p .place .given in
     let s = p .before .before in
-    let e = read-pairs _ _ (g .0 .0) (g .0 .1 .0) (g .0 .1 .1 .0) (sym (g .1) ∙ s .scan-named .ensures) (now (s .before .before .before .before .args .buffer)) in
+    let b = now (s .before .before .before .before .args .buffer) in
+    let e = read-pairs _ _ (g .0 .0) (g .0 .1 .0) (g .0 .1 .1 .0) (sym (g .1) ∙ s .scan-named .ensures) b in
     let r = reads-as e (record { replied = q .read-pair .ensures .0; left = q .read-pair .ensures .1 }) in
     (r .replied, r .left)
 

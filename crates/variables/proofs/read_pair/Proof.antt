@@ -10,7 +10,9 @@ use Rattle.variables.proofs.read_pair.Statement.{statement}
 use Rattle.variables.proofs.read_pair.Tie as tie
 
 -- the pair at the place stands inside the area
-inside : (s : tie.After-place) → (s .place .given .0 .1 .0 + 1 ≤ s .place .given .0 .1 .1 .0) × (s .place .given .0 .1 .1 .0 < length (s .before .before .before .before .args .area .now))
+inside : (s : tie.After-place)
+    → let p = s .place .given .0 .1 in
+    (p .0 + 1 ≤ p .1 .0) × (p .1 .0 < length (s .before .before .before .before .args .area .now))
 inside s = place-inside _ _ (s .before .before .before .before .pre) _ _ _ (s .place .given .1)
 
 enum-told : tie.Need-enum-told
@@ -53,7 +55,9 @@ unfolding part
 returns-2 c =
     let d = c .before .before .before .before .before in
     let p = d .before .before .before .before in
-    let r = read-fits _ (p .before .before .before .before .args .buffer .now) _ _ _ _ (p .place .given .1) _ _ (sym (c .before .n .given .1) ∙ d .decode .ensures .0) (d .decode .ensures .1) in
+    let b = p .before .before .before .before .args .buffer .now in
+    let e = d .decode .ensures in
+    let r = read-fits _ b _ _ _ _ (p .place .given .1) _ _ (sym (c .before .n .given .1) ∙ e .0) (e .1) in
     (r .replied, r .left)
 
 same-length-2 : tie.Need-same-length-2
@@ -64,7 +68,9 @@ unfolding part
 returns-3 c =
     let d = c .before .before .before .before in
     let p = d .before .before .before .before in
-    let r = read-short _ (p .before .before .before .before .args .buffer .now) _ _ _ _ (p .place .given .1) _ (sym (c .enum-told2 .given .1) ∙ d .decode .ensures .0) (d .decode .ensures .1) in
+    let b = p .before .before .before .before .args .buffer .now in
+    let e = d .decode .ensures in
+    let r = read-short _ b _ _ _ _ (p .place .given .1) _ (sym (c .enum-told2 .given .1) ∙ e .0) (e .1) in
     (r .replied, r .left)
 
 pub read-pair-spec : {M : Type 1} → statement M
