@@ -59,12 +59,17 @@ module _ (before : List Pair) (old : List ℕ) (after : List Pair) (z area : Lis
   long-of : (q : Pair) → length (pairsBytes (before ++ q ∷ after)) ≡ length (pairsBytes before) + length (pairBytes q) + length (pairsBytes after)
   unfolding pairsBytes
   long-of q =
-      omega
-      (arith, ap length (pairs-append before (q ∷ after)), length-append (pairsBytes before) (pairsBytes (q ∷ after)), length-append (pairBytes q) (pairsBytes after))
+      omega (
+        arith,
+        ap length (pairs-append before (q ∷ after)),
+        length-append (pairsBytes before) (pairsBytes (q ∷ after)),
+        length-append (pairBytes q) (pairsBytes after),
+      )
 
   module _ (start rest used : ℕ) (es : start ≡ length (pairsBytes before)) (er : rest ≡ start + length old) (eu : used ≡ rest + length (pairsBytes after)) where
     pub replaced : (q : Pair) (call : Calls.Call) (o : Outcome)
-        → o ≡ cond (ltb (length area) (length (pairsBytes (before ++ q ∷ after)) + 1)) (refuse NoRoom call area) (edited (areaBytes (length area) (before ++ q ∷ after)))
+        → o ≡ cond (ltb (length area) (length (pairsBytes (before ++ q ∷ after)) + 1)) (refuse NoRoom call area)
+        (edited (areaBytes (length area) (before ++ q ∷ after)))
         → (replaceReply area start rest used (pairBytes q) ≡ o .reply) × (replaceArea area start rest used (pairBytes q) ≡ o .area)
     replaced q call o eo =
         let n : start + length (pairBytes q) + (used - rest) + 1 ≡ length (pairsBytes (before ++ q ∷ after)) + 1 = omega (arith, long-of q) in
@@ -152,8 +157,8 @@ module _ (area : List ℕ) (used : ℕ) (u : Used area used) (name : List ℕ) w
     set-found value =
         let s : setPair name value (u .pairs) ≡ there .before ++ canonicalPair name value ∷ there .after =
         ap (setPair name value) (there .pairs) ∙ set-split name (there .stored) (there .after) value (there .before) (there .fresh) in
-        replaced (there .before) old (there .after) (0x00 ∷ padding) area around start (end + 1) used (there .start-is) rest-is used-is (canonicalPair name value)
-        (Calls.set name value) (callBy (parse area) (Calls.set name value) area)
+        replaced (there .before) old (there .after) (0x00 ∷ padding) area around start (end + 1) used (there .start-is) rest-is used-is
+        (canonicalPair name value) (Calls.set name value) (callBy (parse area) (Calls.set name value) area)
         (ap (λ (x : Parse). callBy x (Calls.set name value) area) (u .parses)
         ∙ set-makes name value (u .pairs) _ area s)
 
@@ -163,7 +168,8 @@ module _ (area : List ℕ) (used : ℕ) (u : Used area used) (name : List ℕ) w
     remove-found =
         let s : removePair name (u .pairs) ≡ there .before ++ there .after =
         ap (removePair name) (there .pairs) ∙ remove-split name (there .stored) (there .after) (there .before) (there .fresh) in
-        let l : lookup name (u .pairs) ≡ found _ = ap (lookup name) (there .pairs) ∙ lookup-split name (there .stored) (there .after) (there .before) (there .fresh) in
+        let l : lookup name (u .pairs) ≡ found _ =
+        ap (lookup name) (there .pairs) ∙ lookup-split name (there .stored) (there .after) (there .before) (there .fresh) in
         let f : callBy (parse area) (Calls.remove name) area ≡ edited (areaBytes (length area) (there .before ++ there .after)) =
         ap (λ (x : Parse). callBy x (Calls.remove name) area) (u .parses) ∙ ap (λ (x : Lookup). Calls.removeBy x name (u .pairs) area) l
         ∙ ap (λ (qs : List Pair). edited (areaBytes (length area) qs)) s in
@@ -190,7 +196,8 @@ module _ (area : List ℕ) (used : ℕ) (u : Used area used) (name : List ℕ) w
         (ap (λ (x : Parse). callBy x (Calls.set name value) area) (u .parses)
         ∙ set-makes name value (u .pairs) _ area s)
 
-    pub remove-missing : (refused NoVariable ≡ callBy (parse area) (Calls.remove name) area .reply) × (area ≡ callBy (parse area) (Calls.remove name) area .area)
+    pub remove-missing : (refused NoVariable ≡ callBy (parse area) (Calls.remove name) area .reply)
+        × (area ≡ callBy (parse area) (Calls.remove name) area .area)
     unfolding callPairs
     remove-missing =
         let f : callBy (parse area) (Calls.remove name) area ≡ refuse NoVariable (Calls.remove name) area =

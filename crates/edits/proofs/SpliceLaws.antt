@@ -53,7 +53,8 @@ module _ (before : List Pair) (old : List ℕ) (after : List Pair) (z d : List �
       (arith, ap length whole, length-append (pairsBytes before) (pairsBytes new ++ pairsBytes after), length-append (pairsBytes new) (pairsBytes after))
 
   pub pairs-spliced : pasted (tailShifted d (length (pairsBytes before) + length old) (length (pairsBytes before) + length (pairsBytes new))
-      (length (pairsBytes before) + length old + length (pairsBytes after))) (length (pairsBytes before)) (pairsBytes new) ≡ areaBytes (length d) (before ++ (new ++ after))
+      (length (pairsBytes before) + length old + length (pairsBytes after))) (length (pairsBytes before)) (pairsBytes new)
+      ≡ areaBytes (length d) (before ++ (new ++ after))
   pairs-spliced =
       spliced (pairsBytes before) old (pairsBytes after) z d e (pairsBytes new) (omega (arith, long))
       ∙ ap (λ (l : List ℕ). pairsBytes before ++ l) (sym (append-assoc (pairsBytes new) (pairsBytes after) _))

@@ -87,8 +87,10 @@ fn replace(
 // Sets a variable in an area without a fault, whose pairs end at `used`; its pair stands at the place.
 fn set_pair(area: &mut [u8], name: &[u8], value: &[u8], used: usize, place: Place) -> Edited
     requires { ⌜ Used (now area) used × (place ≡ findAt (now area) (now name)) ⌝ }
-    ensures { λ r. ⌜ editReply r ≡ Calls.callBy (parse (now (area .entry))) (Calls.set (now (name .entry)) (now (value .entry))) (now (area .entry)) .reply ⌝ }
-    ensures { λ _. ⌜ now (area .exit) ≡ Calls.callBy (parse (now (area .entry))) (Calls.set (now (name .entry)) (now (value .entry))) (now (area .entry)) .area ⌝ }
+    ensures { λ r. ⌜ editReply r
+        ≡ Calls.callBy (parse (now (area .entry))) (Calls.set (now (name .entry)) (now (value .entry))) (now (area .entry)) .reply ⌝ }
+    ensures { λ _. ⌜ now (area .exit)
+        ≡ Calls.callBy (parse (now (area .entry))) (Calls.set (now (name .entry)) (now (value .entry))) (now (area .entry)) .area ⌝ }
 {
     match place {
         Place::At {

@@ -37,7 +37,8 @@ returns c =
     let b = k .before .before .before .before in
     let a = b .args in
     piece-byte (now (a .area)) (a .at) (now (a .name)) (omega arith) _
-    (part-copied (now (a .area)) (a .at) (a .at + length (now (a .name))) (now (a .name)) (k .copy .last .1 .0) (omega arith) (omega arith) (omega arith) (k .copy .ensures))
+    (part-copied (now (a .area)) (a .at) (a .at + length (now (a .name))) (now (a .name)) (k .copy .last .1 .0)
+    (omega arith) (omega arith) (omega arith) (k .copy .ensures))
     0x3D _ refl
 
 pub put-name-spec : {M : Type 1} → statement M

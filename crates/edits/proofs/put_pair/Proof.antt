@@ -27,7 +27,8 @@ returns c =
     let v = c .before .before in
     let n = v .before .before .before .before in
     let a = n .before .before .before .before .before .args in
-    pair-put (now (a .area)) (a .at) (now (a .name)) (encode (now (a .value))) (omega arith) (n .put-name .last .0) (n .put-name .ensures) (v .put-value .last .0) (v .put-value .ensures)
+    pair-put (now (a .area)) (a .at) (now (a .name)) (encode (now (a .value))) (omega arith)
+    (n .put-name .last .0) (n .put-name .ensures) (v .put-value .last .0) (v .put-value .ensures)
 
 pub put-pair-spec : {M : Type 1} → statement M
 put-pair-spec =

@@ -36,7 +36,8 @@ returns c =
     let b = k .before .before .before .before in
     let a = b .args in
     piece-byte (now (a .area)) (a .at) (encode (now (a .value))) (omega arith) _
-    (part-written (now (a .area)) (a .at) (a .at + a .size) (encode (now (a .value))) (k .encode .last .1 .0) (omega arith) (omega arith) (omega arith) (k .encode .ensures .1))
+    (part-written (now (a .area)) (a .at) (a .at + a .size) (encode (now (a .value))) (k .encode .last .1 .0)
+    (omega arith) (omega arith) (omega arith) (k .encode .ensures .1))
     0x00 (a .at + a .size) (omega arith)
 
 pub put-value-spec : {M : Type 1} → statement M

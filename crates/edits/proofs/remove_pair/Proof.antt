@@ -15,14 +15,18 @@ add-shift-tail c =
     let k = c .before in
     let g = k .before .place .given in
     let s = k .before .before .before .before .before in
-    omega (arith, found-bounds (now (s .args .area)) (s .args .used) (s .pre .0) (now (s .args .name)) (g .0 .0) (g .0 .1 .0) (g .0 .1 .1 .0) (sym (g .1) ∙ s .pre .1))
+    let a = s .args in
+    let q = sym (g .1) ∙ s .pre .1 in
+    omega (arith, found-bounds (now (a .area)) (a .used) (s .pre .0) (now (a .name)) (g .0 .0) (g .0 .1 .0) (g .0 .1 .1 .0) q)
 
 shift-tail-requires : tie.Need-shift-tail-requires
 shift-tail-requires c κs =
     let k = c .before in
     let g = k .before .place .given in
     let s = k .before .before .before .before .before in
-    let b = found-bounds (now (s .args .area)) (s .args .used) (s .pre .0) (now (s .args .name)) (g .0 .0) (g .0 .1 .0) (g .0 .1 .1 .0) (sym (g .1) ∙ s .pre .1) in
+    let a = s .args in
+    let q = sym (g .1) ∙ s .pre .1 in
+    let b = found-bounds (now (a .area)) (a .used) (s .pre .0) (now (a .name)) (g .0 .0) (g .0 .1 .0) (g .0 .1 .1 .0) q in
     (b .1, omega arith, omega arith)
 
 enum-told : tie.Need-enum-told
@@ -37,7 +41,9 @@ returns c =
     let k = r .before .before in
     let g = k .before .place .given in
     let s = k .before .before .before .before .before in
-    let h = remove-found (now (s .args .area)) (s .args .used) (s .pre .0) (now (s .args .name)) (g .0 .0) (g .0 .1 .0) (g .0 .1 .1 .0) (sym (g .1) ∙ s .pre .1) in
+    let a = s .args in
+    let q = sym (g .1) ∙ s .pre .1 in
+    let h = remove-found (now (a .area)) (a .used) (s .pre .0) (now (a .name)) (g .0 .0) (g .0 .1 .0) (g .0 .1 .1 .0) q in
     (h .0, r .shift-tail .ensures ∙ h .1)
 
 returns-2 : tie.Need-returns-2

@@ -72,11 +72,13 @@ returns-3 c =
     let l = t .before .before .before .before in
     let a = l .before .before .before .before .args in
     let q = canonicalPair (now (a .name)) (now (a .value)) in
-    let n : a .start + length (now (a .name)) + l .encoded-len .result + 2 ≡ a .start + length (pairBytes q) = omega (arith, length-pair q, l .encoded-len .ensures) in
+    let n : a .start + length (now (a .name)) + l .encoded-len .result + 2 ≡ a .start + length (pairBytes q) =
+    omega (arith, length-pair q, l .encoded-len .ensures) in
     let h = has-room (now (a .area)) (a .start) (a .rest) (a .used) (pairBytes q) (omega (arith, length-pair q, l .encoded-len .ensures)) in (
       h .0,
       p .put-pair .ensures
-          ∙ ap (λ (x : List ℕ). pasted x (a .start) (pairBytes q)) (t .shift-tail .ensures ∙ ap (λ (k : ℕ). tailShifted (now (a .area)) (a .rest) k (a .used)) n)
+          ∙ ap (λ (x : List ℕ). pasted x (a .start) (pairBytes q))
+          (t .shift-tail .ensures ∙ ap (λ (k : ℕ). tailShifted (now (a .area)) (a .rest) k (a .used)) n)
           ∙ h .1,
     )
 

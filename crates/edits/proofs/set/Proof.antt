@@ -44,7 +44,8 @@ returns-2 c =
     let g = p .used .given in
     let s = p .before .before in
     let a = s .before .before .before .before .before .args in
-    let f = call-scanned (now (a .name)) (Calls.setTo (now (a .value))) (now (a .area)) (g .0 .0) (g .0 .1 .0) (g .0 .1 .1 .0) (sym (g .1) ∙ s .scan-named .ensures) in
+    let q = sym (g .1) ∙ s .scan-named .ensures in
+    let f = call-scanned (now (a .name)) (Calls.setTo (now (a .value))) (now (a .area)) (g .0 .0) (g .0 .1 .0) (g .0 .1 .1 .0) q in
     told-as (sym f) (r .set-pair .ensures .0, r .set-pair .ensures .1)
 
 pub set-spec : {M : Type 1} → statement M

@@ -15,14 +15,18 @@ add-replace c =
     let k = c .before in
     let g = k .before .place .given in
     let s = k .before .before .before .before .before .before in
-    omega (arith, found-bounds (now (s .args .area)) (s .args .used) (s .pre .0) (now (s .args .name)) (g .0 .0) (g .0 .1 .0) (g .0 .1 .1 .0) (sym (g .1) ∙ s .pre .1))
+    let a = s .args in
+    let q = sym (g .1) ∙ s .pre .1 in
+    omega (arith, found-bounds (now (a .area)) (a .used) (s .pre .0) (now (a .name)) (g .0 .0) (g .0 .1 .0) (g .0 .1 .1 .0) q)
 
 replace-requires : tie.Need-replace-requires
 replace-requires c κs =
     let k = c .before in
     let g = k .before .place .given in
     let s = k .before .before .before .before .before .before in
-    let b = found-bounds (now (s .args .area)) (s .args .used) (s .pre .0) (now (s .args .name)) (g .0 .0) (g .0 .1 .0) (g .0 .1 .1 .0) (sym (g .1) ∙ s .pre .1) in
+    let a = s .args in
+    let q = sym (g .1) ∙ s .pre .1 in
+    let b = found-bounds (now (a .area)) (a .used) (s .pre .0) (now (a .name)) (g .0 .0) (g .0 .1 .0) (g .0 .1 .1 .0) q in
     (b .0, b .1, b .2)
 
 enum-told : tie.Need-enum-told
@@ -40,7 +44,9 @@ returns c =
     let k = r .before .before in
     let g = k .before .place .given in
     let s = k .before .before .before .before .before .before in
-    let h = set-found (now (s .args .area)) (s .args .used) (s .pre .0) (now (s .args .name)) (g .0 .0) (g .0 .1 .0) (g .0 .1 .1 .0) (sym (g .1) ∙ s .pre .1) (now (s .args .value)) in
+    let a = s .args in
+    let q = sym (g .1) ∙ s .pre .1 in
+    let h = set-found (now (a .area)) (a .used) (s .pre .0) (now (a .name)) (g .0 .0) (g .0 .1 .0) (g .0 .1 .1 .0) q (now (a .value)) in
     (r .replace .ensures .0 ∙ h .0, r .replace .ensures .1 ∙ h .1)
 
 same-length-2 : tie.Need-same-length-2
@@ -51,7 +57,9 @@ returns-2 c =
     let r = c .before .before in
     let k = r .before .before in
     let s = k .before .before .before .before .before in
-    let h = set-added (now (s .args .area)) (s .args .used) (s .pre .0) (now (s .args .name)) (sym (k .enum-told .given .1) ∙ s .pre .1) (now (s .args .value)) in
+    let a = s .args in
+    let q = sym (k .enum-told .given .1) ∙ s .pre .1 in
+    let h = set-added (now (a .area)) (a .used) (s .pre .0) (now (a .name)) q (now (a .value)) in
     (r .replace2 .ensures .0 ∙ h .0, r .replace2 .ensures .1 ∙ h .1)
 
 pub set-pair-spec : {M : Type 1} → statement M

@@ -35,7 +35,8 @@ returns c =
     let m = f .before .before .before .before in
     let b = m .before .before .before in
     let a = b .args in
-    tail-shifted (now (a .area)) (a .rest) (a .to) (a .used) (b .pre .0) (b .pre .1) (b .pre .2) (m .move-bytes .last .0) (m .move-bytes .ensures) (f .fill .last .0) (f .fill .ensures)
+    tail-shifted (now (a .area)) (a .rest) (a .to) (a .used) (b .pre .0) (b .pre .1) (b .pre .2)
+    (m .move-bytes .last .0) (m .move-bytes .ensures) (f .fill .last .0) (f .fill .ensures)
 
 pub shift-tail-spec : {M : Type 1} → statement M
 shift-tail-spec =
