@@ -235,7 +235,8 @@ pub record NextPair (seen : List (List ℕ)) (left : List Pair) (at q e : ℕ) :
 
 -- what the code finds there
 module _ (at : ℕ) (fill l : List ℕ) where
-  stands-next : {seen : List (List ℕ)} {left : List Pair} → Good seen left → l ≡ pairsBytes left ++ 0x00 ∷ fill → (q e : ℕ) → PairAt.Pair q e ≡ placeOf at (standAt l) → NextPair seen left at q e
+  stands-next : {seen : List (List ℕ)} {left : List Pair} → Good seen left → l ≡ pairsBytes left ++ 0x00 ∷ fill → (q e : ℕ)
+      → PairAt.Pair q e ≡ placeOf at (standAt l) → NextPair seen left at q e
   unfolding pairsBytes placeOf
   stands-next none r q e h = clash (cc (ap standAt r ∙ stand-end fill))
   stands-next (more {p = p} {ps = ps} n v s g) r q e h =
@@ -244,7 +245,8 @@ module _ (at : ℕ) (fill l : List ℕ) where
       let f : PairAt.Pair q e ≡ PairAt.Pair (at + length (p .name)) (at + length (p .name) + 1 + length (p .stored)) = h ∙ ap (placeOf at) k in
       record { next = p; others = ps; is = refl; equals = cc; end = cc; valid = v; good = g }
 
-  stands-none : {seen : List (List ℕ)} {left : List Pair} → Good seen left → l ≡ pairsBytes left ++ 0x00 ∷ fill → (x : PairAt) → x ≡ placeOf at (standAt l) → ((q e : ℕ) → x ≡ PairAt.Pair q e → ⊥) → left ≡ []
+  stands-none : {seen : List (List ℕ)} {left : List Pair} → Good seen left → l ≡ pairsBytes left ++ 0x00 ∷ fill → (x : PairAt)
+      → x ≡ placeOf at (standAt l) → ((q e : ℕ) → x ≡ PairAt.Pair q e → ⊥) → left ≡ []
   unfolding placeOf
   stands-none none r x h f = refl
   stands-none (more {p = p} {ps = ps} n v s g) r x h f =

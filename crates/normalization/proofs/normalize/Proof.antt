@@ -18,7 +18,9 @@ enum-told c = search needs
 normalize-pairs-requires : tie.Need-normalize-pairs-requires
 normalize-pairs-requires c κs =
     let t = c .before in
-    scan-parses (now (t .before .before .before .before .before .before .args .area)) _ (t .enum-told .given .0 .0) (t .enum-told .given .0 .1 .0) (t .enum-told .given .0 .1 .1 .0) (sym (t .enum-told .given .1) ∙ t .before .before .scan .ensures)
+    let a = t .before .before .before .before .before .before .args in
+    let g = t .enum-told .given in
+    scan-parses (now (a .area)) _ (g .0 .0) (g .0 .1 .0) (g .0 .1 .1 .0) (sym (g .1) ∙ t .before .before .scan .ensures)
 
 sub-fill : tie.Need-sub-fill
 sub-fill c = search needs
@@ -43,9 +45,12 @@ returns c =
     let f = c .before .before in
     let n = f .before .before .before .before in
     let t = n .before .before in
-    normalize-done (scan-parses (now (t .before .before .before .before .before .before .args .area)) _ (t .enum-told .given .0 .0) (t .enum-told .given .0 .1 .0) (t .enum-told .given .0 .1 .1 .0) (sym (t .enum-told .given .1) ∙ t .before .before .scan .ensures))
-    (n .normalize-pairs .result) (n .normalize-pairs .ensures .0) (n .normalize-pairs .ensures .1 .0) (n .normalize-pairs .last .0) (n .normalize-pairs .ensures .1 .1)
-    (f .fill .last .0) (f .fill .ensures)
+    let a = t .before .before .before .before .before .before .args in
+    let g = t .enum-told .given in
+    let m = n .normalize-pairs in
+    normalize-done
+    (scan-parses (now (a .area)) _ (g .0 .0) (g .0 .1 .0) (g .0 .1 .1 .0) (sym (g .1) ∙ t .before .before .scan .ensures))
+    (m .result) (m .ensures .0) (m .ensures .1 .0) (m .last .0) (m .ensures .1 .1) (f .fill .last .0) (f .fill .ensures)
 
 same-length-2 : tie.Need-same-length-2
 same-length-2 c = search needs

@@ -69,7 +69,8 @@ returns c =
     let v = r .before .before .before .before in
     let s = v .before .before in
     let a = s .before .args in
-    let h = pair-made (s .before .pre) (v .move-bytes .last .0) (v .move-bytes .ensures) (all-bytes (now (a .area)) (λ i. omega (arith, s .slice-known .given i)))
+    let b = all-bytes (now (a .area)) (λ i. omega (arith, s .slice-known .given i)) in
+    let h = pair-made (s .before .pre) (v .move-bytes .last .0) (v .move-bytes .ensures) b
     (r .recode .result) (r .recode .ensures .0) (c .before .m .given .0 .0) (c .before .m .given .1) (r .recode .last .0) (r .recode .ensures .1) in
     (h .low, (h .past, h .bytes))
 
@@ -81,7 +82,9 @@ returns-2 c =
     let r = c .before .before .before .before in
     let v = r .before .before .before .before in
     let s = v .before .before in
-    absurd (pair-recodes (s .before .pre) (v .move-bytes .last .0) (v .move-bytes .ensures) (r .recode .result) (r .recode .ensures .0) (c .enum-told .given .1))
+    let m = v .move-bytes in
+    let e = r .recode in
+    absurd (pair-recodes (s .before .pre) (m .last .0) (m .ensures) (e .result) (e .ensures .0) (c .enum-told .given .1))
 
 pub normalize-pair-spec : {M : Type 1} → statement M
 normalize-pair-spec =

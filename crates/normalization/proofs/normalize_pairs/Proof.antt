@@ -8,7 +8,8 @@ use denote.Enum.Declared.{tagOf}
 use Rattle.pairs.specs.declared.PairAt.{PairAt}
 use Rattle.pairs.specs.declared.PairAt.the-variants.{Pair}
 use Rattle.pairs.proofs.PairAt.{the-type}
-use Rattle.normalization.proofs.NormalizeLaws.{Normalizing, normalizing-none, normalizing-more, normalizing-end, normalizing-long, pair-moves, pair-further}
+use Rattle.normalization.proofs.NormalizeLaws.{Normalizing, normalizing-none, normalizing-more}
+use Rattle.normalization.proofs.NormalizeLaws.{normalizing-end, normalizing-long, pair-moves, pair-further}
 use borrow.Author.Needs.{needs}
 use Rattle.normalization.proofs.normalize_pairs.Statement.{statement}
 use Rattle.normalization.proofs.normalize_pairs.Tie as tie
@@ -60,13 +61,16 @@ loop-again c =
     let p = k .before .before in
     let l = p .before .before .loop in
     let m = c .before .before .normalize-pair in
-    normalizing-more (l .inv) (k .here .given .0 .0) (k .here .given .0 .1 .0) (sym (k .here .given .1) ∙ p .pair-at .ensures) (m .result) (m .last .0) (m .ensures .0) (m .ensures .1 .0) (m .ensures .1 .1)
+    normalizing-more (l .inv) (k .here .given .0 .0) (k .here .given .0 .1 .0) (sym (k .here .given .1) ∙ p .pair-at .ensures)
+    (m .result) (m .last .0) (m .ensures .0) (m .ensures .1 .0) (m .ensures .1 .1)
 
 same-length : tie.Need-same-length Inv-loop μ-loop
 same-length c = normalizing-long (c .before .before .before .loop .inv)
 
 returns : tie.Need-returns Inv-loop μ-loop
-returns c = normalizing-end (c .before .before .before .loop .inv) (c .before .pair-at .result) (c .before .pair-at .ensures) (not-pair (c .before .pair-at .result) (c .match .keys2))
+returns c =
+    let p = c .before .pair-at in
+    normalizing-end (c .before .before .before .loop .inv) (p .result) (p .ensures) (not-pair (p .result) (c .match .keys2))
 
 pub normalize-pairs-spec : {M : Type 1} → statement M
 normalize-pairs-spec =
