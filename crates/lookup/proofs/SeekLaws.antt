@@ -4,14 +4,13 @@ use mathlib.Core.Path.{_≡_, ap, refl, sym, _∙_}
 use mathlib.Core.Bool.{Bool, true, false}
 use mathlib.Core.List.{List, [], _∷_}
 use lib.ListN.{length}
-use Rattle.lists.specs.Bytes.{sameBytes}
 use Rattle.errors.specs.declared.Error.the-variants.{ImageLength, NoPartition}
 use Rattle.header.specs.Header.{headerAt}
 use Rattle.partitions.specs.declared.Partition.{Partition}
 use Rattle.partitions.specs.declared.Found.{Found}
 use Rattle.partitions.specs.declared.Found.the-variants.{At, Refused}
 use Rattle.partitions.specs.Walk.{Walk, covered, broken, allowedLength}
-use Rattle.partitions.specs.Find.{padded, matches, firstMatch, findBy, findOf}
+use Rattle.partitions.specs.Find.{sameName, matches, firstMatch, findBy, findOf}
 use Rattle.partitions.specs.Helpers.{keepFirst}
 use Rattle.partitions.proofs.WalkLaws.{rest, walk-rest, walk-refused, onWalk}
 use Rattle.partitions.proofs.FoundLaws.{matches-signed, matches-other, find-walk, find-covered, find-broken, match-nothing, match-head, match-tail}
@@ -53,7 +52,7 @@ module _ (image : List ℕ) (signature : ℕ) (name : List ℕ) where
   -- a turn of the loop, where the signature agrees and where not
   module _ (best : Found) (p : Partition) (ps : List Partition) (s : ℕ) (es : s ≡ headerAt image (p .offset) .signature) where
     pub seek-signed : s ≡ signature → (r : Found)
-        → r ≡ keepFirst best (sameBytes (headerAt image (p .offset) .name) (padded 12 name)) p
+        → r ≡ keepFirst best (sameName (headerAt image (p .offset) .name) name) p
         → seekName image signature name best (p ∷ ps) ≡ seekName image signature name r ps
     seek-signed e r er =
         ap (λ (b : Bool). seekName image signature name (keepFirst best b p) ps) (matches-signed image (p .offset) signature name (sym es ∙ e))

@@ -1,9 +1,8 @@
 // A partition by its signature and name, and its data area.
 ghost use mathlib.Core.Path.{_≡_};
-ghost use lib.ListN.{length, getD};
-ghost use Rattle.lists.specs.Bytes.{sameBytes};
+ghost use lib.ListN.{getD};
 ghost use Rattle.header.specs.Header.{headerAt};
-ghost use Rattle.partitions.specs.Find.{padded, findOf, areaOf};
+ghost use Rattle.partitions.specs.Find.{sameName, findOf, areaOf};
 ghost use Rattle.partitions.specs.Helpers.{keepFirst};
 ghost use Rattle.partitions.specs.Answers.{findAnswer};
 use errors::Error;
@@ -22,7 +21,7 @@ fn padded_byte(name: &[u8], i: usize) -> u8
 
 // Whether stored bytes are a name that is filled with 0x00.
 fn same_padded(stored: &[u8], name: &[u8]) -> bool
-    ensures { λ r. ⌜ r ≡ sameBytes (now (stored .entry)) (padded (length (now (stored .entry))) (now (name .entry))) ⌝ }
+    ensures { λ r. ⌜ r ≡ sameName (now (stored .entry)) (now (name .entry)) ⌝ }
 {
     let n = stored.len();
     if n < name.len() {
@@ -40,14 +39,14 @@ fn same_padded(stored: &[u8], name: &[u8]) -> bool
 
 // The same of a header's name.
 fn same_name(stored: &[u8; 12], name: &[u8]) -> bool
-    ensures { λ r. ⌜ r ≡ sameBytes (now (stored .entry)) (padded (length (now (stored .entry))) (now (name .entry))) ⌝ }
+    ensures { λ r. ⌜ r ≡ sameName (now (stored .entry)) (now (name .entry)) ⌝ }
 {
     same_padded(stored, name)
 }
 
 // Whether the header at an offset has this name.
 fn has_name(image: &[u8], at: usize, name: &[u8]) -> bool
-    ensures { λ r. ⌜ r ≡ sameBytes (headerAt (now (image .entry)) at .name) (padded 12 (now (name .entry))) ⌝ }
+    ensures { λ r. ⌜ r ≡ sameName (headerAt (now (image .entry)) at .name) (now (name .entry)) ⌝ }
 {
     let stored = Header::read(image, at).name;
     same_name(&stored, name)
@@ -55,7 +54,7 @@ fn has_name(image: &[u8], at: usize, name: &[u8]) -> bool
 
 // What was found before, or else the partition where it has this name; its name is read only where nothing was found.
 fn first_named(best: Found, image: &[u8], p: Partition, name: &[u8]) -> Found
-    ensures { λ r. ⌜ r ≡ keepFirst best (sameBytes (headerAt (now (image .entry)) (p .offset) .name) (padded 12 (now (name .entry)))) p ⌝ }
+    ensures { λ r. ⌜ r ≡ keepFirst best (sameName (headerAt (now (image .entry)) (p .offset) .name) (now (name .entry))) p ⌝ }
 {
     match best {
         Found::At(q) => Found::At(q),

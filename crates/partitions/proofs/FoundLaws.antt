@@ -20,7 +20,7 @@ use Rattle.partitions.specs.declared.Partition.{Partition}
 use Rattle.partitions.specs.declared.Found.{Found}
 use Rattle.partitions.specs.declared.Found.the-variants.{At, Refused}
 use Rattle.partitions.specs.Walk.{Walk, covered, broken, walk}
-use Rattle.partitions.specs.Find.{padded, matches, firstMatch, findBy, findOf, atIndex, indexBy, indexOf}
+use Rattle.partitions.specs.Find.{padded, sameName, matches, firstMatch, findBy, findOf, atIndex, indexBy, indexOf}
 use Rattle.partitions.specs.Cover.{Accepted, Rejected, Named, NoneNamed, FirstNamed, Indexed, NotNamed, NotIndexed}
 use Rattle.partitions.proofs.CoverLaws.{Walked, accepts, rejects, walked, accepted-exactly, rejected-exactly}
 
@@ -38,10 +38,14 @@ pub padded-at : (n : ℕ) (name : List ℕ) (i : ℕ) → getD (padded n name) i
 unfolding padded
 padded-at n name i = filled-at name (n - length name) i
 
+pub same-padded : (stored name : List ℕ) → sameName stored name ≡ sameBytes stored (padded (length stored) name)
+unfolding sameName
+same-padded stored name = refl
+
 -- the test of a header, where its signature is the one that is asked for, and where not
 module _ (image : List ℕ) (at signature : ℕ) (name : List ℕ) where
   pub matches-signed : headerAt image at .signature ≡ signature
-      → matches image signature name at ≡ sameBytes (headerAt image at .name) (padded 12 name)
+      → matches image signature name at ≡ sameName (headerAt image at .name) name
   unfolding matches
   matches-signed e = rw (eq-eqb _ _ e)
 
@@ -51,16 +55,28 @@ module _ (image : List ℕ) (at signature : ℕ) (name : List ℕ) where
 
 -- the test of a name and the rule
 module _ (image : List ℕ) (signature : ℕ) (name : List ℕ) (at : ℕ) where
+  -- the stored name has twelve bytes
+  same-read : sameName (headerAt image at .name) name ≡ sameBytes (nameAt image at) (padded 12 name)
+  same-read =
+      ap (λ (l : List ℕ). sameName l name) (name-read image at) ∙ same-padded (nameAt image at) name
+      ∙ ap (λ (k : ℕ). sameBytes (nameAt image at) (padded k name)) (name-length image at)
+
+  named-same : Named image signature name at → sameName (headerAt image at .name) name ≡ true
+  unfolding padded
+  named-same n = same-read ∙ rw (n .named) (same-refl (padded 12 name))
+
+  same-named : sameName (headerAt image at .name) name ≡ true → nameAt image at ≡ padded 12 name
+  same-named e = same-true (nameAt image at) (padded 12 name) (sym same-read ∙ e)
+
   pub named-matches : Named image signature name at → matches image signature name at ≡ true
-  unfolding matches padded
-  named-matches n =
-      rw (eq-eqb _ _ (signature-read image at ∙ n .signed), name-read image at ∙ n .named) (same-refl (padded 12 name))
+  unfolding matches
+  named-matches n = rw (eq-eqb _ _ (signature-read image at ∙ n .signed)) (named-same n)
 
   pub matches-named : matches image signature name at ≡ true → Named image signature name at
   unfolding matches padded
   matches-named e =
-      let t = and-true (eqb (headerAt image at .signature) signature) (sameBytes (headerAt image at .name) (padded 12 name)) e in
-      let n : nameAt image at ≡ padded 12 name = sym (name-read image at) ∙ same-true (headerAt image at .name) (padded 12 name) (t .1) in
+      let t = and-true (eqb (headerAt image at .signature) signature) (sameName (headerAt image at .name) name) e in
+      let n : nameAt image at ≡ padded 12 name = same-named (t .1) in
       record {
         signed = sym (signature-read image at) ∙ eqb-true (headerAt image at .signature) signature (t .0);
         short = omega (arith, length-padded 12 name, ap length n, name-length image at);

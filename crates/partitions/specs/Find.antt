@@ -39,10 +39,14 @@ indexOf image n = indexBy n (walk image)
 unfoldable pub padded : ℕ → List ℕ → List ℕ
 padded n name = name ++ replicate (n - length name) 0
 
+-- whether a stored name is the caller's, filled with 0x00
+unfoldable pub sameName : List ℕ → List ℕ → Bool
+sameName stored name = sameBytes stored (padded (length stored) name)
+
 -- whether the header at an offset has this signature and this name
 unfoldable pub matches : List ℕ → ℕ → List ℕ → ℕ → Bool
 matches image signature name at =
-    eqb (headerAt image at .signature) signature && sameBytes (headerAt image at .name) (padded 12 name)
+    eqb (headerAt image at .signature) signature && sameName (headerAt image at .name) name
 
 -- the first in image order that matches; code 6 where none does
 unfoldable pub firstMatch : List ℕ → ℕ → List ℕ → List Partition → Found

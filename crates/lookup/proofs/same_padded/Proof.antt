@@ -4,7 +4,7 @@ use mathlib.Core.Path.{_≡_, refl}
 use native.Mathlib.Omega.{arith}
 use lib.ListN.{length}
 use denote.Ref.{now}
-use Rattle.lookup.proofs.NameLaws.{Agree, too-long, agree-next, agree-differs, agree-all}
+use Rattle.lookup.proofs.NameLaws.{Agree, agree-none, too-long, agree-next, agree-differs, agree-all}
 use borrow.Author.Needs.{needs}
 use Rattle.lookup.proofs.same_padded.Statement.{statement}
 use Rattle.lookup.proofs.same_padded.Tie as tie
@@ -21,7 +21,7 @@ returns c =
     too-long (now (a .stored)) (now (a .name)) (c .if1 .taken)
 
 loop-holds : tie.Need-loop-holds Inv-loop μ-loop
-loop-holds c = (refl, omega arith, refl)
+loop-holds c = let a = c .before .before .before .args in (refl, omega arith, agree-none (now (a .stored)) (now (a .name)))
 
 shared-slice-read-if2 : tie.Need-shared-slice-read-if2 Inv-loop μ-loop
 shared-slice-read-if2 c = search needs
