@@ -1,4 +1,5 @@
-// The C boundary: each function returns the code, 0 where the call is done, and stores the offset and its other outputs, 0 with every code from 1 up.
+// The C boundary: each function returns the code, 0 where the call is done, and stores its outputs.
+// All but the listing store an offset; the other outputs are 0 with every code from 1 up.
 ghost use mathlib.Core.Path.{_≡_};
 ghost use lib.ListN as List;
 ghost use Rattle.lists.specs.Pasted.{writtenIn};
