@@ -28,7 +28,7 @@ use Rattle.variables.proofs.CallLaws.{check-named, check-normalize, check-count
 use Rattle.variables.proofs.CallLaws.{remove-found, read-missing, read-short, read-done, normalize-done, count-done, split-lookup, split-room}
 use Rattle.nvram.specs.Calls.{Told, toldAt}
 use Rattle.demands.specs.Model.{Model, total, setEntry, dropEntry, newSizes, Value, valueOf, Stepped, says, denies, keeps, becomes, setStep}
-use Rattle.demands.specs.Model.{removeStep, readStep, actionStep, step, canonicalArea}
+use Rattle.demands.specs.Model.{removeStep, readStep, actionStep, callModel, canonicalArea}
 use Rattle.demands.specs.Demands.{ActionBytes, CallBytes}
 use Rattle.demands.proofs.ModelLaws.{entries-set, entries-remove, entries-normalize, valueFor, value-entries, count-entries, total-entries}
 use Rattle.demands.proofs.ModelLaws.{canonical-area}
@@ -61,20 +61,20 @@ area-in-form area ps r c =
 
 module _ (m : Model) where
   step-misnamed : (name : List ℕ) (action : Action) (at : ℕ) → nameCheck name ≡ Wrong at
-      → step (named name action) m ≡ keeps (denies 11 0 (lentBy action)) m
-  unfolding step
+      → callModel (named name action) m ≡ keeps (denies 11 0 (lentBy action)) m
+  unfolding callModel
   step-misnamed name action at g = rw g
 
-  step-named : (name : List ℕ) (action : Action) → nameCheck name ≡ Good → step (named name action) m ≡ actionStep action name m
-  unfolding step
+  step-named : (name : List ℕ) (action : Action) → nameCheck name ≡ Good → callModel (named name action) m ≡ actionStep action name m
+  unfolding callModel
   step-named name action g = rw g
 
-  step-normalize : step normalize m ≡ becomes (newSizes (m .entries)) m
-  unfolding step
+  step-normalize : callModel normalize m ≡ becomes (newSizes (m .entries)) m
+  unfolding callModel
   step-normalize = refl
 
-  step-count : step count m ≡ keeps (says (length (m .entries)) []) m
-  unfolding step
+  step-count : callModel count m ≡ keeps (says (length (m .entries)) []) m
+  unfolding callModel
   step-count = refl
 
 -- ---- one call, of both
@@ -179,7 +179,7 @@ module _ (n : ℕ) (area : List ℕ) (ps : List Pair) (r : parse area ≡ parsed
     agree-action (readInto buffer) h = agree-read buffer
 
   agree-named : (name : List ℕ) (action : Action) → ActionBytes action
-      → Agree n (named name action) area ps (callArea (named name action) area) (step (named name action) m)
+      → Agree n (named name action) area ps (callArea (named name action) area) (callModel (named name action) m)
   agree-named name action h =
       let call : Call = named name action in
       split-check (nameCheck name)
@@ -188,20 +188,20 @@ module _ (n : ℕ) (area : List ℕ) (ps : List Pair) (r : parse area ≡ parsed
       (λ at g. agree-as (call-misnamed call area at (check-named name action ∙ g)) (step-misnamed m name action at g)
       (stay call (refused BadName) (lentBy action) (denies 11 0 (lentBy action)) (λ q. clash (cc)) refl))
 
-  agree-normalize : Agree n normalize area ps (callArea normalize area) (step normalize m)
+  agree-normalize : Agree n normalize area ps (callArea normalize area) (callModel normalize m)
   agree-normalize =
       agree-as (call-parsed normalize area check-normalize ps r ∙ normalize-done ps area) (step-normalize m)
       (edit normalize (newSizes (entriesOf ps)) (normalizePairs ps) (good-normalize good)
       (omega (arith, room, normalize-short good)) (bytes-normalize good stored)
       (sym (entries-normalize ps)) (λ w. normalize-twice ps) (λ q. normalize-twice ps))
 
-  agree-count : Agree n count area ps (callArea count area) (step count m)
+  agree-count : Agree n count area ps (callArea count area) (callModel count m)
   agree-count =
       agree-as (call-parsed count area check-count ps r ∙ count-done ps area) (step-count m)
       (stay count (done (length ps)) [] (says (length (entriesOf ps)) []) (λ q. clash (cc)) (ap (λ (k : ℕ). says k []) (sym (count-entries ps))))
 
   -- ONE CALL
-  pub agree : (call : Call) → CallBytes call → Agree n call area ps (callArea call area) (step call m)
+  pub agree : (call : Call) → CallBytes call → Agree n call area ps (callArea call area) (callModel call m)
   agree (named name action) h = agree-named name action h
   agree normalize h = agree-normalize
   agree count h = agree-count

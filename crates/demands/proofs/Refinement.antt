@@ -20,7 +20,7 @@ use Rattle.nvram.specs.Calls.{Result, callImage}
 use Rattle.nvram.proofs.CommonLaws.{common-exactly, common-among, common-kept}
 use Rattle.nvram.proofs.CallLaws.{call-image}
 use Rattle.demands.specs.Library.{Results, runImage}
-use Rattle.demands.specs.Model.{Model, Stepped, step, Run, run, canonicalArea}
+use Rattle.demands.specs.Model.{Model, Stepped, callModel, Run, runModel, canonicalArea}
 use Rattle.demands.specs.Demands.{CallBytes, CallsBytes, Normalizes, Demand3}
 use Rattle.demands.proofs.Agree.{modelOf, InForm, in-form-area, area-in-form, Agree, agree}
 
@@ -101,13 +101,13 @@ module _ (p : Partition) (I : List ℕ) (ps : List Pair) (h : State p I ps) (cal
   abbrev from : Model
   from = modelOf (areaIn p I) ps
 
-  one-agree : Agree (p .offset + 16) call (areaIn p I) ps (callArea call (areaIn p I)) (step call from)
+  one-agree : Agree (p .offset + 16) call (areaIn p I) ps (callArea call (areaIn p I)) (callModel call from)
   one-agree = agree (p .offset + 16) (areaIn p I) ps (h .reads) (area-bytes I (At p) (h .bytes)) call b
 
-  one-told : callImage call I .told ≡ step call from .told
+  one-told : callImage call I .told ≡ callModel call from .told
   one-told = ap (λ (r : Result). r .told) (call-image call I p (h .place)) ∙ one-agree .told
 
-  one : Leads p I ps (callImage call I .image) (step call from .model) (call ≡ normalize)
+  one : Leads p I ps (callImage call I .image) (callModel call from .model) (call ≡ normalize)
   one = leads-as (ap (λ (r : Result). r .image) (call-image call I p (h .place))) refl (leads-area p I ps h one-agree)
 
 -- ---- a list of calls
@@ -117,43 +117,43 @@ record Together (p : Partition) (I : List ℕ) (ps : List Pair) (calls : List Ca
   told : rs .told ≡ r .told
   leads : Leads p I ps (rs .image) (r .model) (Normalizes calls)
 
-together-none : (p : Partition) (I : List ℕ) (ps : List Pair) → State p I ps → Together p I ps [] (runImage [] I) (run [] (modelOf (areaIn p I) ps))
-unfolding runImage run
+together-none : (p : Partition) (I : List ℕ) (ps : List Pair) → State p I ps → Together p I ps [] (runImage [] I) (runModel [] (modelOf (areaIn p I) ps))
+unfolding runImage runModel
 together-none p I ps h = record { told = refl; leads = leads-none p I ps h }
 
 -- a call and those after it; m is the model that the call leaves
 together-more : (p : Partition) (I : List ℕ) (ps : List Pair) (call : Call) (calls : List Call) (r : Result) (s : Stepped)
     (l : Leads p I ps (r .image) (s .model) (call ≡ normalize))
-    → r .told ≡ s .told → Together p (r .image) (l .pairs) calls (runImage calls (r .image)) (run calls (modelOf (areaIn p (r .image)) (l .pairs)))
+    → r .told ≡ s .told → Together p (r .image) (l .pairs) calls (runImage calls (r .image)) (runModel calls (modelOf (areaIn p (r .image)) (l .pairs)))
     → Together p I ps (call ∷ calls) (record { told = r .told ∷ runImage calls (r .image) .told; image = runImage calls (r .image) .image })
-    (record { told = s .told ∷ run calls (s .model) .told; model = run calls (s .model) .model })
+    (record { told = s .told ∷ runModel calls (s .model) .told; model = runModel calls (s .model) .model })
 together-more p I ps call calls r s l e t =
     let q = l .model in
     record {
-      told = λ i. e i ∷ (t .told ∙ ap (λ (m : Model). run calls m .told) (sym q)) i;
-      leads = leads-as refl (ap (λ (m : Model). run calls m .model) q) (leads-on l (t .leads));
+      told = λ i. e i ∷ (t .told ∙ ap (λ (m : Model). runModel calls m .told) (sym q)) i;
+      leads = leads-as refl (ap (λ (m : Model). runModel calls m .model) q) (leads-on l (t .leads));
     }
 
 -- ALL THE CALLS
 together : (calls : List Call) (p : Partition) (I : List ℕ) (ps : List Pair) → State p I ps → CallsBytes calls
-    → Together p I ps calls (runImage calls I) (run calls (modelOf (areaIn p I) ps))
-unfolding runImage run
+    → Together p I ps calls (runImage calls I) (runModel calls (modelOf (areaIn p I) ps))
+unfolding runImage runModel
 together [] p I ps h b = together-none p I ps h
 together (call ∷ calls) p I ps h b =
     let l = one p I ps h call (b .0) in
-    together-more p I ps call calls (callImage call I) (step call (modelOf (areaIn p I) ps)) l (one-told p I ps h call (b .0))
+    together-more p I ps call calls (callImage call I) (callModel call (modelOf (areaIn p I) ps)) l (one-told p I ps h call (b .0))
     (together calls p (callImage call I .image) (l .pairs) (l .state) (b .1))
 
 -- ---- demand 3
 
 module _ (p : Partition) (I : List ℕ) (ps : List Pair) (calls : List Call) (h : State p I ps)
-    (t : Together p I ps calls (runImage calls I) (run calls (modelOf (areaIn p I) ps)))
+    (t : Together p I ps calls (runImage calls I) (runModel calls (modelOf (areaIn p I) ps)))
   where
     abbrev last : List ℕ
     last = runImage calls I .image
 
     abbrev final : Model
-    final = run calls (modelOf (areaIn p I) ps) .model
+    final = runModel calls (modelOf (areaIn p I) ps) .model
 
     abbrev k : Leads p I ps last final (Normalizes calls)
     k = t .leads
@@ -182,12 +182,12 @@ module _ (p : Partition) (I : List ℕ) (ps : List Pair) (calls : List Call) (h 
         let m : modelOf (areaIn p I) ps ≡ record { room = length (areaAt I (p .offset)); entries = es } =
         λ i. record { room = length (A i); entries = q i } in
         record {
-          told = t .told ∙ ap (λ (x : Model). run calls x .told) m;
-          entries = subst (λ (x : Model). WellFormed (run calls x .model .entries) (areaAt last (p .offset))) m last-formed;
+          told = t .told ∙ ap (λ (x : Model). runModel calls x .told) m;
+          entries = subst (λ (x : Model). WellFormed (runModel calls x .model .entries) (areaAt last (p .offset))) m last-formed;
           outside = k .outside;
           canonical = λ x.
               last-canonical (elim x [ inl c ↦ inl (A ∙ c ∙ (λ i. canonicalArea (length (sym A i)) (sym q i))) | inr z ↦ inr z ])
-              ∙ (λ i. canonicalArea (length (A i)) (run calls (m i) .model .entries));
+              ∙ (λ i. canonicalArea (length (A i)) (runModel calls (m i) .model .entries));
         }
 
 -- DEMAND 3

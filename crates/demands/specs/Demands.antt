@@ -17,7 +17,7 @@ use Rattle.nvram.specs.Common.{HasCommon}
 use Rattle.nvram.specs.Calls.{callImage}
 use Rattle.demands.specs.Requests.{Request, variable, check, partition, find, area, Seen, lends}
 use Rattle.demands.specs.Table.{Answers}
-use Rattle.demands.specs.Model.{run, canonicalArea}
+use Rattle.demands.specs.Model.{runModel, canonicalArea}
 use Rattle.demands.specs.Library.{seen, runImage}
 
 -- what a caller gives is bytes
@@ -76,15 +76,15 @@ Normalizes (call ∷ calls) = (call ≡ normalize) ⊎ Normalizes calls
 -- DEMAND 3: a taken image whose `common` stands at a, with an area of the entries es, and a list of calls
 pub record Demand3 (I : List ℕ) (a : ℕ) (es : List Entry) (calls : List Call) : Type 0 where
   -- every call has answered as the model does, which sees only the calls
-  pub told : runImage calls I .told ≡ run calls (record { room = length (areaAt I a); entries = es }) .told
+  pub told : runImage calls I .told ≡ runModel calls (record { room = length (areaAt I a); entries = es }) .told
   -- afterwards the area is well formed and holds exactly the model's entries, in its order
-  pub entries : WellFormed (run calls (record { room = length (areaAt I a); entries = es }) .model .entries) (areaAt (runImage calls I .image) a)
+  pub entries : WellFormed (runModel calls (record { room = length (areaAt I a); entries = es }) .model .entries) (areaAt (runImage calls I .image) a)
   -- no byte outside the area has changed
   pub outside : OutsideKept I a (runImage calls I .image)
   -- canonical from the start, or normalized on the way: the area is the canonical form of the final entries
   pub canonical : (areaAt I a ≡ canonicalArea (length (areaAt I a)) es) ⊎ Normalizes calls
       → areaAt (runImage calls I .image) a
-      ≡ canonicalArea (length (areaAt I a)) (run calls (record { room = length (areaAt I a); entries = es }) .model .entries)
+      ≡ canonicalArea (length (areaAt I a)) (runModel calls (record { room = length (areaAt I a); entries = es }) .model .entries)
 
 -- all of it
 pub record Demands : Type 0 where

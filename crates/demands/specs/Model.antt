@@ -99,21 +99,21 @@ actionStep removal name m = removeStep (valueOf name (m .entries)) name m
 actionStep (readInto buffer) name m = readStep (valueOf name (m .entries)) buffer m
 
 -- one call; 11 if the name breaks the name rule
-unfoldable pub step : Call → Model → Stepped
-step (named name action) m = onCheck (nameCheck name) (actionStep action name m) (λ at. keeps (denies 11 0 (lentBy action)) m)
-step normalize m = becomes (newSizes (m .entries)) m
-step count m = keeps (says (length (m .entries)) []) m
+unfoldable pub callModel : Call → Model → Stepped
+callModel (named name action) m = onCheck (nameCheck name) (actionStep action name m) (λ at. keeps (denies 11 0 (lentBy action)) m)
+callModel normalize m = becomes (newSizes (m .entries)) m
+callModel count m = keeps (says (length (m .entries)) []) m
 
 -- a list of calls
 pub record Run : Type 0 where
   pub told : List Told
   pub model : Model
 
-unfoldable pub run : List Call → Model → Run
-run [] m = record { told = []; model = m }
-run (call ∷ calls) m =
-    let s : Stepped = step call m in
-    let r : Run = run calls (s .model) in
+unfoldable pub runModel : List Call → Model → Run
+runModel [] m = record { told = []; model = m }
+runModel (call ∷ calls) m =
+    let s : Stepped = callModel call m in
+    let r : Run = runModel calls (s .model) in
     record { told = s .told ∷ r .told; model = r .model }
 
 -- the canonical form of entries as an area of a length: each pair with its value in canonical form, then 0x00 to the end
