@@ -17,7 +17,7 @@ use Rattle.names.proofs.NameLaws.{check-good-exactly, split-check}
 use Rattle.pairs.specs.Area.{Pair, pairsBytes, parsed, parse}
 use Rattle.pairs.specs.Rules.{Entry}
 use Rattle.pairs.proofs.ParseLaws.{Good as GoodPairs, area-read, read-room, bytes-read}
-use Rattle.pairs.proofs.StandsLaws.{stands-none}
+use Rattle.lists.proofs.StandsLaws.{stands-none}
 use Rattle.pairs.proofs.EntryLaws.{entriesOf}
 use Rattle.variables.specs.Edits.{areaBytes, setPair, removePair, normalizePairs, lookup}
 use Rattle.variables.specs.Calls.{Action, setTo, removal, readInto, lentBy, Call, named, set, remove, normalize, read, count, Reply, done, refused}

@@ -30,7 +30,7 @@ use Rattle.values.proofs.CanonicalLaws.{canonical-encode}
 use Rattle.pairs.specs.Area.{Pair, pairsBytes, parsed, parse}
 use Rattle.pairs.specs.Rules.{Entry, WellFormed}
 use Rattle.pairs.proofs.ParseLaws.{Good as GoodPairs, area-read}
-use Rattle.pairs.proofs.StandsLaws.{stands-none}
+use Rattle.lists.proofs.StandsLaws.{stands-none}
 use Rattle.pairs.proofs.EntryLaws.{parse-exactly}
 use Rattle.variables.specs.Edits.{areaBytes, setPair, found, lookup}
 use Rattle.variables.specs.Rules.{Holds}

@@ -5,7 +5,7 @@ use mathlib.Core.Bool.{Bool, true, _&&_}
 use mathlib.Core.List.{List, [], _∷_}
 use lib.Dec.{ltb}
 use borrow.Author.Tests.{ltb-true}
-use Rattle.lists.specs.Bytes.{AllBytes, sameBytes}
+use Rattle.lists.specs.Bytes.{AllBytes, sameBytes, stands}
 use Rattle.lists.proofs.Tests.{and-true}
 use Rattle.header.specs.Checksum.{sumFrom}
 use Rattle.header.specs.Header.{headerAt, nameAt, validityOf, validityAt}
@@ -18,7 +18,7 @@ use Rattle.partitions.specs.Examples.{E}
 use Rattle.names.specs.Name.{nameByte, nameCheckFrom, nameCheck}
 use Rattle.values.specs.Value.{decode, decodeFrom, run, runByte}
 use Rattle.pairs.specs.Scan.{storedName, scanName, scanValue, standAt}
-use Rattle.pairs.specs.Area.{pairOf, pairBytes, stands, parseFrom, parse}
+use Rattle.pairs.specs.Area.{pairOf, pairBytes, parseFrom, parse}
 use Rattle.pairs.specs.Rules.{Entry, WellFormed}
 use Rattle.variables.specs.Calls.{Call}
 use Rattle.pairs.proofs.EntryLaws.{parse-exactly}

@@ -6,7 +6,7 @@ use mathlib.Core.List.{List, [], _∷_}
 use native.Mathlib.Omega.{arith}
 use native.Mathlib.Decide.{decLe}
 use lib.ListN.{length}
-use Rattle.lists.specs.Bytes.{AllBytes}
+use Rattle.lists.specs.Bytes.{AllBytes, stands}
 use Rattle.lists.specs.Pasted.{pasted}
 use Rattle.lists.proofs.Tests.{split, clash}
 use Rattle.errors.specs.declared.AreaFault.{AreaFault}
@@ -18,7 +18,7 @@ use Rattle.partitions.specs.declared.Found.the-variants.{At, Refused}
 use Rattle.partitions.specs.Cover.{areaAt}
 use Rattle.names.specs.declared.NameCheck.the-variants.{Good}
 use Rattle.names.proofs.NameLaws.{split-check}
-use Rattle.pairs.specs.Area.{Pair, pairsBytes, stands, Parse, parsed, faulty, parse}
+use Rattle.pairs.specs.Area.{Pair, pairsBytes, Parse, parsed, faulty, parse}
 use Rattle.pairs.specs.Rules.{Entry, Pairs, Once, FaultAt}
 use Rattle.pairs.proofs.StandsLaws.{names}
 use Rattle.pairs.proofs.EntryLaws.{entriesOf, parse-exactly}

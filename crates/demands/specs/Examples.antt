@@ -4,7 +4,7 @@ use mathlib.Core.Path.{_≡_, refl}
 use mathlib.Core.Bool.{true, false}
 use mathlib.Core.List.{List, [], _∷_, _++_}
 use lib.ListN.{take, drop, replicate}
-use Rattle.lists.specs.Bytes.{sameBytes}
+use Rattle.lists.specs.Bytes.{sameBytes, stands}
 use Rattle.lists.specs.Pasted.{pasted}
 use Rattle.header.specs.Checksum.{sumFrom, sumcheck}
 use Rattle.header.specs.Header.{headerAt, nameAt, newHeader, validityOf, validityAt}
@@ -18,7 +18,7 @@ use Rattle.names.specs.declared.NameCheck.the-variants.{Good, Wrong}
 use Rattle.names.specs.Name.{nameByte, nameCheckFrom, nameCheck}
 use Rattle.values.specs.Value.{runByte, run, decodeFrom, decode, mark, fullEscapes, restEscape, runBytes, encodeFrom, encode}
 use Rattle.pairs.specs.Scan.{storedName, scanName, scanValue, pair, wrongName, standAt}
-use Rattle.pairs.specs.Area.{pairBytes, pairsBytes, stands, parseFrom, parse}
+use Rattle.pairs.specs.Area.{pairBytes, pairsBytes, parseFrom, parse}
 use Rattle.variables.specs.Edits.{areaBytes, setPair, normalizePairs, lookup}
 use Rattle.variables.specs.Calls.{set, read, normalize, count, callCheck, setIn, callPairs, callArea}
 use Rattle.nvram.specs.Common.{commonOf}

@@ -1,6 +1,7 @@
 pub mod Tests
 pub mod ListLaws
 pub mod ByteLaws
+pub mod StandsLaws
 pub mod PastedLaws
 pub mod WrittenLaws
 pub mod Grown

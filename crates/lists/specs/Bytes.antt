@@ -1,6 +1,6 @@
--- Lists of bytes: what all elements are, and the test that two lists are the same.
+-- Lists of bytes: what all elements are, the test that two lists are the same, and that one stands among others.
 use Prim.Native.Nat.{ℕ, _<_}
-use mathlib.Core.Bool.{Bool, true, false, _&&_}
+use mathlib.Core.Bool.{Bool, true, false, _&&_, _||_}
 use mathlib.Core.List.{List, [], _∷_}
 use lib.Dec.{eqb}
 
@@ -19,3 +19,8 @@ sameBytes [] [] = true
 sameBytes [] (y ∷ ys) = false
 sameBytes (x ∷ xs) [] = false
 sameBytes (x ∷ xs) (y ∷ ys) = eqb x y && sameBytes xs ys
+
+-- whether a name stands among others
+unfoldable pub stands : List ℕ → List (List ℕ) → Bool
+stands name [] = false
+stands name (n ∷ ns) = sameBytes name n || stands name ns

@@ -6,7 +6,7 @@ use mathlib.Core.List.{List, [], _∷_, _++_}
 use mathlib.Core.Logic.{inl, inr, _↔_}
 use native.Mathlib.Omega.{arith}
 use lib.ListN.{length}
-use Rattle.lists.specs.Bytes.{AllBytes, sameBytes}
+use Rattle.lists.specs.Bytes.{AllBytes, sameBytes, stands}
 use Rattle.lists.proofs.Tests.{split, clash}
 use Rattle.lists.proofs.ByteLaws.{same-refl, same-true}
 use Rattle.names.specs.Rules.{NameRule}
@@ -14,11 +14,12 @@ use Rattle.values.specs.Value.{spelled, decode}
 use Rattle.values.specs.Rules.{Spells}
 use Rattle.values.proofs.DecodeLaws.{spells-exactly, spells-spelled, spells-decode}
 use Rattle.pairs.specs.Scan.{pair, standAt}
-use Rattle.pairs.specs.Area.{Pair, pairOf, pairBytes, pairsBytes, stands, parsed, parse}
+use Rattle.pairs.specs.Area.{Pair, pairOf, pairBytes, pairsBytes, parsed, parse}
 use Rattle.pairs.specs.Rules.{Entry, In, sizes, Pairs, Once, WellFormed}
 use Rattle.pairs.proofs.ScanLaws.{a-pair, standing-stand, stand-end}
 use Rattle.pairs.proofs.ParseLaws.{Good, length-pair, length-pairs, pair-front, area-reads, area-read, bytes-pair}
-use Rattle.pairs.proofs.StandsLaws.{names, stands-not, stands-first, stands-other, good-unseen}
+use Rattle.lists.proofs.StandsLaws.{stands-none, stands-not, stands-first, stands-other}
+use Rattle.pairs.proofs.StandsLaws.{names, good-unseen}
 
 abbrev pub entryOf : Pair → Entry
 entryOf p = record { name = p .name; value = decode (p .stored); size = length (pairBytes p) }
@@ -52,8 +53,7 @@ in-stands name (e ∷ es) (inr i) =
     (λ t. stands-other name (e .name) (namesOf es) t ∙ in-stands name es i)
 
 stands-in : (name : List ℕ) (es : List Entry) → stands name (namesOf es) ≡ true → In name es
-unfolding stands
-stands-in name [] h = clash (cc)
+stands-in name [] h = clash (cc (stands-none name))
 stands-in name (e ∷ es) h =
     split (sameBytes name (e .name))
     (λ t. inl (same-true name (e .name) t))
@@ -155,8 +155,7 @@ once-good-from seen (p ∷ ps) a (Once.more q o) f =
         (λ t. stands-not x (p .name) (names ps) (f x (sym (stands-other x (p .name) seen t) ∙ h)) .1)
 
 pub once-good : (ps : List Pair) → Each ps → Once (entriesOf ps) → Good [] ps
-unfolding stands
-once-good ps a o = once-good-from [] ps a o (λ x h. clash (cc))
+once-good ps a o = once-good-from [] ps a o (λ x h. clash (cc (stands-none x)))
 
 -- ---- a whole area
 

@@ -6,7 +6,7 @@ use mathlib.Core.List.{List, [], _∷_, _++_}
 use mathlib.Core.Logic.{_⊎_, inl, inr, _↔_}
 use native.Mathlib.Omega.{arith}
 use lib.ListN.{length, length-append}
-use Rattle.lists.specs.Bytes.{AllBytes, sameBytes}
+use Rattle.lists.specs.Bytes.{AllBytes, sameBytes, stands}
 use Rattle.lists.proofs.Tests.{split, clash}
 use Rattle.errors.specs.declared.AreaFault.{AreaFault}
 use Rattle.errors.specs.declared.AreaFault.the-variants.{AreaEnd, StoredName, Escape, Repeated}
@@ -15,12 +15,13 @@ use Rattle.values.specs.Value.{spelled, decode}
 use Rattle.values.specs.Rules.{Spells}
 use Rattle.values.proofs.DecodeLaws.{spells-exactly, spells-spelled}
 use Rattle.pairs.specs.Scan.{Stand, cut, wrongName, wrongEscape}
-use Rattle.pairs.specs.Area.{Pair, pairOf, pairsBytes, stands, Parse, faulty, firstPair, onStand, parseFrom, parse}
+use Rattle.pairs.specs.Area.{Pair, pairOf, pairsBytes, Parse, faulty, firstPair, onStand, parseFrom, parse}
 use Rattle.pairs.specs.Rules.{Entry, In, sizes, CutOff, in-name, in-value, in-escape, FaultAt, seven, eight, nine, ten, Faulty}
 use Rattle.pairs.proofs.ScanLaws.{Standing, a-pair, the-end, cut-name, cut-value, cut-escape, a-wrong-name, a-wrong-escape, standing}
 use Rattle.pairs.proofs.ParseLaws.{Good, none, more, length-whole, length-pairs, pair-front, parseRest}
 use Rattle.pairs.proofs.ParseLaws.{parse-start, parse-standing, parse-pair, first-faulty, every-left, every-right}
-use Rattle.pairs.proofs.StandsLaws.{names, stands-first, stands-other}
+use Rattle.lists.proofs.StandsLaws.{stands-none, stands-first, stands-other}
+use Rattle.pairs.proofs.StandsLaws.{names}
 use Rattle.pairs.proofs.EntryLaws.{entriesOf, sizes-pairs, names-entries, in-exactly, good-each, good-once, pairs-of, of-pairs, once-good}
 
 -- ---- the names before an offset
@@ -45,9 +46,8 @@ seen-either x seen (p ∷ ps) h =
     ]
 
 either-seen : (x : List ℕ) (seen : List (List ℕ)) (ps : List Pair) → (stands x seen ≡ true) ⊎ (stands x (names ps) ≡ true) → stands x (seenAfter seen ps) ≡ true
-unfolding stands
 either-seen x seen [] (inl i) = i
-either-seen x seen [] (inr i) = clash (cc)
+either-seen x seen [] (inr i) = clash (cc (stands-none x))
 either-seen x seen (p ∷ ps) h =
     split (sameBytes x (p .name))
     (λ t. either-seen x (p .name ∷ seen) ps (inl (stands-first x (p .name) seen t)))
@@ -56,10 +56,9 @@ either-seen x seen (p ∷ ps) h =
 
 -- THE NAMES SEEN after pairs are those of their entries
 pub seen-exactly : (x : List ℕ) (ps : List Pair) → (stands x (seenAfter [] ps) ≡ true) ↔ In x (entriesOf ps)
-unfolding stands
 seen-exactly x ps = (
   λ h. elim (seen-either x [] ps h) [
-    | inl i ↦ clash (cc)
+    | inl i ↦ clash (cc (stands-none x))
     | inr j ↦ in-exactly x (entriesOf ps) .0 (ap (stands x) (sym (names-entries ps)) ∙ j)
   ],
   λ i. either-seen x [] ps (inr (ap (stands x) (names-entries ps) ∙ in-exactly x (entriesOf ps) .1 i)),

@@ -6,12 +6,12 @@ use mathlib.Core.List.{List, [], _∷_, _++_, append-assoc, append-nil}
 use native.Mathlib.Omega.{arith}
 use lib.Dec.{eqb}
 use lib.ListN.{length, take, drop, length-append}
-use Rattle.lists.specs.Bytes.{Every}
+use Rattle.lists.specs.Bytes.{Every, stands}
 use Rattle.lists.proofs.Tests.{split, clash}
 use Rattle.errors.specs.declared.AreaFault.the-variants.{AreaEnd, StoredName, Escape, Repeated}
 use Rattle.repeats.specs.declared.Repeat.{Repeat}
 use Rattle.repeats.specs.declared.Repeat.the-variants.{At, None}
-use Rattle.repeats.specs.Pieces.{stands, endsName, nameOf, pieceName, startsFrom, starts, repeatIn, firstRepeat}
+use Rattle.repeats.specs.Pieces.{endsName, nameOf, pieceName, startsFrom, starts, repeatIn, firstRepeat}
 use Rattle.pairs.specs.declared.PairAt.{PairAt}
 use Rattle.pairs.specs.declared.PairAt.the-variants as PairAt
 use Rattle.pairs.specs.declared.Scanned.{Scanned}

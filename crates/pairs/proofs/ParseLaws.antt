@@ -5,14 +5,14 @@ use mathlib.Core.Bool.{true, false, cond}
 use mathlib.Core.List.{List, [], _∷_, _++_, append-assoc}
 use native.Mathlib.Omega.{arith}
 use lib.ListN.{length, length-append}
-use Rattle.lists.specs.Bytes.{Every, AllBytes}
+use Rattle.lists.specs.Bytes.{Every, AllBytes, stands}
 use Rattle.lists.proofs.Tests.{split, clash}
 use Rattle.errors.specs.declared.AreaFault.{AreaFault}
 use Rattle.errors.specs.declared.AreaFault.the-variants.{Repeated}
 use Rattle.names.specs.Rules.{NameRule}
 use Rattle.values.specs.Value.{spelled}
 use Rattle.pairs.specs.Scan.{Stand, standAt}
-use Rattle.pairs.specs.Area.{Pair, pairOf, pairBytes, pairsBytes, stands, Parse, parsed, faulty, firstPair, onStand, parseFrom, parse}
+use Rattle.pairs.specs.Area.{Pair, pairOf, pairBytes, pairsBytes, Parse, parsed, faulty, firstPair, onStand, parseFrom, parse}
 use Rattle.pairs.proofs.ScanLaws.{Standing, a-pair, the-end, cut-name, cut-value, cut-escape, a-wrong-name, a-wrong-escape, standing, standing-stand}
 
 -- pairs as they may stand after the names that were seen

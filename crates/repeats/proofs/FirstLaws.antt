@@ -7,12 +7,12 @@ use native.Mathlib.Omega.{arith}
 use lib.Dec.{eqb, ltb}
 use lib.ListN.{length, drop, getD, length-drop}
 use borrow.Author.Tests.{eqb-true, eqb-false, ltb-true, ltb-false}
-use Rattle.lists.specs.Bytes.{sameBytes}
+use Rattle.lists.specs.Bytes.{sameBytes, stands}
 use Rattle.lists.proofs.Tests.{split}
 use Rattle.lists.proofs.ByteLaws.{same-refl, same-true}
 use Rattle.repeats.specs.declared.Repeat.{Repeat}
 use Rattle.repeats.specs.declared.Repeat.the-variants.{At, None}
-use Rattle.repeats.specs.Pieces.{stands, pieceName, startsFrom, starts, repeatIn, firstRepeat}
+use Rattle.repeats.specs.Pieces.{pieceName, startsFrom, starts, repeatIn, firstRepeat}
 use Rattle.repeats.specs.Helpers.Places.{Start, Distinct, Early, Best}
 use Rattle.lists.proofs.ListLaws.{drop-next}
 

@@ -12,7 +12,7 @@ use borrow.Author.Tests.{eqb-true, eqb-false}
 use Rattle.lists.proofs.Tests.{split}
 use Rattle.lists.proofs.ListLaws.{zeros-at}
 use Rattle.repeats.specs.Pieces.{pieceName, starts}
-use Rattle.repeats.specs.Helpers.Table.{hashOf, rootOf, wayOf, Comes, here, there, Found, Table, Free, Walked}
+use Rattle.repeats.specs.Helpers.Table.{hashOf, rootOf, wayOf, Comes, here, there, Reached, Table, Free, Walked}
 
 pub split-eq : {A : Type 0} (a b : ℕ) → (a ≡ b → A) → ((a ≡ b → ⊥) → A) → A
 split-eq a b f g = split (eqb a b) (λ t. f (eqb-true a b t)) (λ t. g (eqb-false a b t))
@@ -30,18 +30,18 @@ pub next-is : {x v : ℕ} → v ≡ x → (v ≡ 0 → ⊥) → x ≡ suc (v - 1
 next-is e z = omega arith
 
 -- a walk: no entry is found at an empty link, and one other than the entry at a link is found past it
-found-none : {links : List ℕ} {n at way i : ℕ} → Found links n at way i → getD links at 0 ≡ 0 → ⊥
+found-none : {links : List ℕ} {n at way i : ℕ} → Reached links n at way i → getD links at 0 ≡ 0 → ⊥
 found-none {links} {n} {at} {way} {i} f z = go (f .comes) z (f .is)
   where
     go : {s a w : ℕ} → Comes links n s a w → getD links a 0 ≡ 0 → getD links s 0 ≡ suc i → ⊥
     go here z e = omega arith
     go (there q r) z e = omega arith
 
-found-past : {links : List ℕ} {n at way i o : ℕ} → Found links n at way i → getD links at 0 ≡ suc o → (i ≡ o → ⊥)
-    → Found links n (n + 2 * o + way % 2) (way / 2) i
+found-past : {links : List ℕ} {n at way i o : ℕ} → Reached links n at way i → getD links at 0 ≡ suc o → (i ≡ o → ⊥)
+    → Reached links n (n + 2 * o + way % 2) (way / 2) i
 found-past {links} {n} {at} {way} {i} {o} f e d = go (f .comes) e (f .is)
   where
-    go : {s a w : ℕ} → Comes links n s a w → getD links a 0 ≡ suc o → getD links s 0 ≡ suc i → Found links n (n + 2 * o + w % 2) (w / 2) i
+    go : {s a w : ℕ} → Comes links n s a w → getD links a 0 ≡ suc o → getD links s 0 ≡ suc i → Reached links n (n + 2 * o + w % 2) (w / 2) i
     go here e x = absurd (d (omega arith))
     go {s} {a} {w} (there {j} q r) e x =
         let y : j ≡ o = omega arith in
@@ -50,14 +50,14 @@ found-past {links} {n} {at} {way} {i} {o} f e d = go (f .comes) e (f .is)
 -- where the walk to the name at `at` stands: the entries with the name are ahead, and what it comes to from here it comes to from its tree
 pub record Walk (l links starts : List ℕ) (k at h link way : ℕ) : Type 0 where
   pub low : link < length starts + 2 * k
-  pub ahead : (i : ℕ) → i < k → pieceName l (getD starts i 0) ≡ pieceName l at → Found links (length starts) link way i
+  pub ahead : (i : ℕ) → i < k → pieceName l (getD starts i 0) ≡ pieceName l at → Reached links (length starts) link way i
   pub back : (s : ℕ) → Comes links (length starts) s link way → Comes links (length starts) s (rootOf (length starts) h) (wayOf h)
 
 module _ {l links starts : List ℕ} {k : ℕ} (t : Table l links starts k) where
   pub walk-none : (at h n : ℕ) → n ≡ length starts → h ≡ hashOf (pieceName l at) → Walk l links starts k at h (rootOf n h) (wayOf h)
   walk-none at h n q e = subst (λ (m : ℕ). Walk l links starts k at h (rootOf m h) (wayOf h)) (sym q) (record {
     low = omega (arith, root-low (length starts) h (t .some));
-    ahead = λ i b q. subst (λ (x : ℕ). Found links (length starts) (rootOf (length starts) x) (wayOf x) i) (ap hashOf q ∙ sym e) (t .cover i b);
+    ahead = λ i b q. subst (λ (x : ℕ). Reached links (length starts) (rootOf (length starts) x) (wayOf x) i) (ap hashOf q ∙ sym e) (t .cover i b);
     back = λ s c. c;
   })
 
@@ -92,7 +92,7 @@ comes-set : {links : List ℕ} {n s at way : ℕ} (e v : ℕ) → getD links e 0
 comes-set e v z here = here
 comes-set {links} e v z (there {at} q r) = there (other links e at v z q) (comes-set e v z r)
 
-found-set : {links : List ℕ} {n at way i : ℕ} (e v : ℕ) → getD links e 0 ≡ 0 → Found links n at way i → Found (set links e v) n at way i
+found-set : {links : List ℕ} {n at way i : ℕ} (e v : ℕ) → getD links e 0 ≡ 0 → Reached links n at way i → Reached (set links e v) n at way i
 found-set {links} e v z f = record { link = f .link; comes = comes-set e v z (f .comes); is = other links e (f .link) v z (f .is) }
 
 -- an entry more
@@ -108,7 +108,7 @@ module _ {l links starts : List ℕ} {k link : ℕ} (at : ℕ) (t : Table l link
   new-start i q = ap (λ (m : ℕ). getD (set starts k at) m 0) q ∙ getD-set-same starts k at 0 r
 
   covered : (i : ℕ) → i < k + 1
-      → Found (set links link (k + 1)) (length starts) (rootOf (length starts) (hashOf (pieceName l (getD (set starts k at) i 0))))
+      → Reached (set links link (k + 1)) (length starts) (rootOf (length starts) (hashOf (pieceName l (getD (set starts k at) i 0))))
       (wayOf (hashOf (pieceName l (getD (set starts k at) i 0)))) i
   covered i h = split-eq i k
       (λ q. rw (new-start i q) (record { link = link; comes = comes-set link (k + 1) (f .empty) (f .comes); is = omega (arith, new-link link refl) }))

@@ -1,9 +1,9 @@
 -- Examples of the definition, by computing.
 use mathlib.Core.Path.{_≡_, refl}
 use mathlib.Core.List.{[], _∷_}
-use Rattle.lists.specs.Bytes.{sameBytes}
+use Rattle.lists.specs.Bytes.{sameBytes, stands}
 use Rattle.repeats.specs.declared.Repeat.the-variants.{At, None}
-use Rattle.repeats.specs.Pieces.{stands, endsName, nameOf, pieceName, startsFrom, starts, repeatIn, firstRepeat}
+use Rattle.repeats.specs.Pieces.{endsName, nameOf, pieceName, startsFrom, starts, repeatIn, firstRepeat}
 
 -- no bytes; a=1, b=2
 example-1 : firstRepeat [] ≡ None

@@ -4,14 +4,9 @@ use mathlib.Core.Bool.{Bool, true, false, _||_}
 use mathlib.Core.List.{List, [], _∷_}
 use lib.ListN.{drop}
 use lib.Dec.{eqb}
-use Rattle.lists.specs.Bytes.{sameBytes}
+use Rattle.lists.specs.Bytes.{stands}
 use Rattle.repeats.specs.declared.Repeat.{Repeat}
 use Rattle.repeats.specs.declared.Repeat.the-variants.{At, None}
-
--- whether a name stands among others
-unfoldable pub stands : List ℕ → List (List ℕ) → Bool
-stands name [] = false
-stands name (n ∷ ns) = sameBytes name n || stands name ns
 
 -- `=` and 0x00 end a name
 unfoldable pub endsName : ℕ → Bool

@@ -6,7 +6,7 @@ use mathlib.Core.List.{List, [], _∷_, _++_}
 use mathlib.Core.Logic.{_≢_, _↔_}
 use native.Mathlib.Omega.{arith}
 use lib.ListN.{length, replicate, length-append, length-replicate}
-use Rattle.lists.specs.Bytes.{Every, AllBytes, sameBytes}
+use Rattle.lists.specs.Bytes.{Every, AllBytes, sameBytes, stands}
 use Rattle.lists.proofs.Tests.{split, clash}
 use Rattle.lists.proofs.ListLaws.{every-append, every-replicate}
 use Rattle.lists.proofs.ByteLaws.{same-refl, same-true, same-false}
@@ -15,10 +15,11 @@ use Rattle.values.specs.Value.{decode}
 use Rattle.values.proofs.DecodeLaws.{spells-exactly, bytes-decode}
 use Rattle.values.proofs.EncodeLaws.{decode-encode, encode-again, spelled-encode, bytes-encode, encode-shortest}
 use Rattle.values.proofs.ShortLaws.{recode-short}
-use Rattle.pairs.specs.Area.{Pair, pairOf, pairBytes, pairsBytes, stands, parsed, parse}
+use Rattle.pairs.specs.Area.{Pair, pairOf, pairBytes, pairsBytes, parsed, parse}
 use Rattle.variables.specs.Edits.{areaBytes, canonicalPair, setPair, removePair, normalizePairs, found, missing, lookup}
 use Rattle.pairs.proofs.ParseLaws.{Good, none, more, length-pairs, area-reads, bytes-pairs}
-use Rattle.pairs.proofs.StandsLaws.{names, stands-not, not-stands, stands-first, good-unseen}
+use Rattle.lists.proofs.StandsLaws.{stands-none, stands-not, not-stands, stands-first}
+use Rattle.pairs.proofs.StandsLaws.{names, good-unseen}
 
 -- ---- the area that is written
 
@@ -63,11 +64,10 @@ next-place {name} q t (there before p after h e) = there (q ∷ before) p after 
 next-place {name} {ps} q t (nowhere h) = nowhere (not-stands name (q .name) (names ps) t h)
 
 pub place : (name : List ℕ) (ps : List Pair) → Place name ps
-unfolding stands
-place name [] = nowhere refl
+place name [] = nowhere (stands-none name)
 place name (p ∷ ps) =
     split (sameBytes name (p .name))
-    (λ t. there [] p ps refl (same-true name (p .name) t))
+    (λ t. there [] p ps (stands-none name) (same-true name (p .name) t))
     (λ t. next-place p t (place name ps))
 
 -- no pairs
@@ -317,8 +317,7 @@ lookup-missing name (p ∷ ps) h =
     lookup-next name p ps (s .0) ∙ lookup-missing name ps (s .1)
 
 missing-lookup : (name : List ℕ) (ps : List Pair) → lookup name ps ≡ missing → stands name (names ps) ≡ false
-unfolding stands
-missing-lookup name [] h = refl
+missing-lookup name [] h = stands-none name
 missing-lookup name (p ∷ ps) h =
     split (sameBytes name (p .name))
     (λ t. clash (cc (lookup-first name p ps t)))

@@ -6,11 +6,10 @@ use mathlib.Core.List.{List, [], _∷_, _++_, append-assoc}
 use native.Mathlib.Omega.{arith}
 use lib.ListN.{length, take, drop, length-append}
 use lib.Seq.{take-at, drop-at}
-use Rattle.lists.specs.Bytes.{sameBytes}
+use Rattle.lists.specs.Bytes.{sameBytes, stands}
 use Rattle.lists.proofs.ByteLaws.{same-refl, same-true}
 use Rattle.lists.proofs.Tests.{split, clash}
 use Rattle.errors.specs.declared.AreaFault.the-variants.{Repeated}
-use Rattle.repeats.specs.Pieces.{stands}
 use Rattle.values.specs.Value.{decode}
 use Rattle.values.specs.Helpers.{part}
 use Rattle.pairs.specs.declared.Place.{Place}

@@ -6,14 +6,14 @@ use mathlib.Core.List.{List, [], _∷_, _++_, append-assoc, append-nil}
 use mathlib.Core.Logic.{_↔_}
 use native.Mathlib.Omega.{arith}
 use lib.ListN.{length, replicate, length-append, length-replicate}
-use Rattle.lists.specs.Bytes.{AllBytes}
+use Rattle.lists.specs.Bytes.{AllBytes, stands}
 use Rattle.lists.proofs.Tests.{clash}
 use Rattle.names.specs.Rules.{NameRule}
 use Rattle.values.specs.Value.{decode, encode}
 use Rattle.values.specs.Rules.{Spells, Canonical}
 use Rattle.values.proofs.DecodeLaws.{spells-exactly, spells-spelled, bytes-decode}
 use Rattle.values.proofs.CanonicalLaws.{canonical-exactly}
-use Rattle.pairs.specs.Area.{Pair, pairOf, pairBytes, pairsBytes, stands, parsed, parse}
+use Rattle.pairs.specs.Area.{Pair, pairOf, pairBytes, pairsBytes, parsed, parse}
 use Rattle.variables.specs.Edits.{areaBytes, canonicalPair, setPair, removePair, normalizePairs}
 use Rattle.pairs.specs.Rules.{Entry, In, Pairs}
 use Rattle.variables.specs.Rules.{Zeroed, zeroed, pairBy, SetLeaves, replaces, adds, RemoveLeaves, removes, CanonicalPairs, NormalizeLeaves, normalizes}

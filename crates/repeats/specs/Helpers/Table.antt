@@ -41,7 +41,7 @@ pub data Comes (links : List ℕ) (n s : ℕ) : ℕ → ℕ → Type 0 where
   there : {at way j : ℕ} → getD links at 0 ≡ suc j → Comes links n s (n + 2 * j + way % 2) (way / 2) → Comes links n s at way
 
 -- the walk from a link by these bits finds the entry i
-pub record Found (links : List ℕ) (n at way i : ℕ) : Type 0 where
+pub record Reached (links : List ℕ) (n at way i : ℕ) : Type 0 where
   pub link : ℕ
   pub comes : Comes links n link at way
   pub is : getD links link 0 ≡ suc i
@@ -56,7 +56,7 @@ pub record Table (l links starts : List ℕ) (k : ℕ) : Type 0 where
   pub below : (at j : ℕ) → getD links at 0 ≡ suc j → j < k
   pub onward : (at j : ℕ) → getD links at 0 ≡ suc j → at < length starts + 2 * j
   pub cover : (i : ℕ) → i < k
-      → Found links (length starts) (rootOf (length starts) (hashOf (pieceName l (getD starts i 0))))
+      → Reached links (length starts) (rootOf (length starts) (hashOf (pieceName l (getD starts i 0))))
       (wayOf (hashOf (pieceName l (getD starts i 0)))) i
 
 -- an entry of the table has the name that stands at `at`
