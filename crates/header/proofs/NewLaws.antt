@@ -2,8 +2,8 @@
 use Prim.Native.Nat.{ℕ, _+_, _*_, _/_, _%_, _≤_, _<_}
 use mathlib.Core.Path.{_≡_, ap, refl, sym, _∙_}
 use mathlib.Core.Logic.{_≢_, _↔_}
-use mathlib.Core.Bool.{true, _&&_}
-use mathlib.Core.List.{List, [], _∷_}
+use mathlib.Core.Bool.{true}
+use mathlib.Core.List.{List, _∷_}
 use native.Mathlib.Omega.{arith}
 use lib.ListN.{length as len, take, drop, length-take, length-drop}
 use lib.Dec.{leb}
@@ -11,7 +11,6 @@ use borrow.Author.Tests.{leb-true, le-leb}
 use Rattle.lists.specs.Bytes.{AllBytes}
 use Rattle.lists.proofs.Tests.{and-true}
 use Rattle.header.specs.declared.Blocks.{Blocks}
-use Rattle.header.specs.declared.Header.{Header}
 use Rattle.header.specs.Checksum.{sum, sumcheck, closedForm}
 use Rattle.header.specs.Header.{byteAt, nameAt, headerAt, headerBytes, sealed, newHeader}
 use Rattle.header.specs.Rules.{blocksAt, checksumAt, Sound}

@@ -1,5 +1,5 @@
 -- Accepted exactly when covered, and refused by each of 1 to 5 exactly when its rule says so.
-use Prim.Native.Nat.{ℕ, suc, zero, _+_, _-_, _*_, _≤_, _<_}
+use Prim.Native.Nat.{ℕ, _+_, _-_, _*_, _<_}
 use mathlib.Core.Path.{_≡_, ap, subst, refl, sym, _∙_}
 use mathlib.Core.Logic.{_↔_}
 use mathlib.Core.Bool.{true, false}
@@ -12,20 +12,18 @@ use Rattle.lists.proofs.Tests.{split, clash, and-true}
 use Rattle.errors.specs.declared.Error.{Error}
 use Rattle.errors.specs.declared.HeaderFault.{HeaderFault}
 use Rattle.errors.specs.declared.Error.the-variants.{BadHeader}
-use Rattle.header.specs.declared.Validity.the-variants.{Invalid}
-use Rattle.header.specs.Header.{headerAt, validityAt}
-use Rattle.header.specs.Rules.{blocksAt, Sound, Breaks}
+use Rattle.header.specs.declared.Validity.the-variants.{Valid, Invalid}
+use Rattle.header.specs.Header.{validityAt}
+use Rattle.header.specs.Rules.{Sound, Breaks}
 use Rattle.header.proofs.RuleLaws.{blocks-read, signature-read, valid-exactly, invalid-exactly, sound-valid, breaks-invalid}
 use Rattle.header.proofs.ValidityLaws.{invalid-here}
 use Rattle.partitions.specs.declared.Partition.{Partition}
-use Rattle.partitions.specs.declared.Step.{Step}
-use Rattle.partitions.specs.declared.Step.the-variants.{Next, End, Broken}
 use Rattle.partitions.specs.declared.Checked.the-variants.{Accepted as Accepts, Refused as Refuses}
-use Rattle.partitions.specs.Walk.{allowedLength, partitionOf, pastOf, stepAt, Walk, covered, broken, first, onStep, walkFrom, walk}
+use Rattle.partitions.specs.Walk.{allowedLength, partitionOf, pastOf, Walk, covered, broken, first, walk}
 use Rattle.partitions.specs.Find.{checkedBy, checkOf}
 use Rattle.partitions.specs.Cover.{LengthRule, partitionAt, pastAt, Cover, here, next, Accepted, PartitionCount, Rejected, one, header}
 use Rattle.partitions.proofs.StepLaws.{step-end, step-next, step-broken}
-use Rattle.partitions.proofs.WalkLaws.{View, ends, goes, breaks, view, past-bounds, rest, rest-next, rest-end, rest-broken, walk-rest, walk-refused}
+use Rattle.partitions.proofs.WalkLaws.{rest, rest-next, rest-end, rest-broken, walk-rest, walk-refused, rest-by-steps}
 
 -- the length rule and its test
 pub length-rule : (n : ℕ) → allowedLength n ≡ true → LengthRule n
@@ -100,28 +98,18 @@ module _ (image : List ℕ) (bytes : AllBytes image) where
   outcome-first a s (covered ps) (complete c) = complete (next s c)
   outcome-first a s (broken e) (stopped c l x) = stopped (next s c) l x
 
-  outcome : (n at : ℕ) → at ≤ length image → length image - at < n → Outcome at (walkFrom n image at)
-  unfolding walkFrom
-  outcome zero at l h = absurd (omega arith)
-  outcome (suc n) at l h = go (stepAt image at) (view image at) (outcome n (pastOf image at))
-    where
-      go : (s : Step) → View image at s
-          → (pastOf image at ≤ length image → length image - pastOf image at < n → Outcome (pastOf image at) (walkFrom n image (pastOf image at)))
-          → Outcome at (onStep s (λ past. walkFrom n image past))
-      go End (ends e) ih = let z : length image ≡ at = omega arith in complete {ps = []} (rw z here)
-      go (Next p c) (goes i v) ih =
-          let b = past-bounds image at i v in
-          let o : Outcome (pastAt image at) (walkFrom n image (pastOf image at)) =
-          subst (λ (k : ℕ). Outcome k (walkFrom n image (pastOf image at))) (past-same image at) (ih (omega arith) (omega arith)) in
-          rw (partition-same image at) (outcome-first at (valid-exactly image at bytes .0 v) (walkFrom n image (pastOf image at)) o)
-      go (Broken x) (breaks i v) ih =
-          let h = invalid-here image at x v in
-          let w : validityAt image at ≡ Invalid (BadHeader (h .0) at) = v ∙ ap Invalid (h .1) in
-          rw (h .1) (stopped here i (invalid-exactly image at bytes (h .0) .0 w))
+  outcome-next : (at : ℕ) → validityAt image at ≡ Valid → (w : Walk) → Outcome (pastOf image at) w → Outcome at (first (partitionOf image at) w)
+  outcome-next at v w o =
+      rw (partition-same image at)
+      (outcome-first at (valid-exactly image at bytes .0 v) w (subst (λ (k : ℕ). Outcome k w) (past-same image at) o))
+
+  outcome-stop : (at : ℕ) → at < length image → (e : Error) → validityAt image at ≡ Invalid e → Outcome at (broken e)
+  outcome-stop at l e v =
+      let h = invalid-here image at e v in
+      rw (h .1) (stopped here l (invalid-exactly image at bytes (h .0) .0 (v ∙ ap Invalid (h .1))))
 
   rest-outcome : Outcome 0 (rest image 0)
-  unfolding rest
-  rest-outcome = outcome (suc (length image - 0)) 0 (omega arith) (omega arith)
+  rest-outcome = rest-by-steps image Outcome (complete here) (λ at l v w o. outcome-next at v w o) outcome-stop
 
   -- what the walk of an image finds, by the rules
   pub data Walked : Walk → Type 0 where

@@ -1,5 +1,5 @@
 -- What a loop over the partitions may rely on: where a step leads, and what holds of a walk if each of its steps keeps it.
-use Prim.Native.Nat.{ℕ, zero, suc, _+_, _-_, _*_, _≤_, _<_}
+use Prim.Native.Nat.{ℕ, _+_, _*_, _≤_, _<_}
 use mathlib.Core.Path.{_≡_, refl, sym, ap, _∙_}
 use mathlib.Core.List.{List, []}
 use native.Mathlib.Omega.{arith}
@@ -18,10 +18,10 @@ use Rattle.partitions.specs.declared.Cursor.{Cursor}
 use Rattle.partitions.specs.declared.Step.{Step}
 use Rattle.partitions.specs.declared.Step.the-variants.{Next, End, Broken}
 use Rattle.partitions.specs.declared.Checked.the-variants.{Accepted, Refused}
-use Rattle.partitions.specs.Walk.{stepAt, partitionOf, pastOf, Walk, covered, broken, first, onStep, walkFrom, walk, allowedLength}
+use Rattle.partitions.specs.Walk.{stepAt, partitionOf, pastOf, Walk, covered, broken, first, walk, allowedLength}
 use Rattle.partitions.specs.Find.{checkedBy, checkOf}
 use Rattle.partitions.specs.Cover.{partitionAt}
-use Rattle.partitions.proofs.WalkLaws.{View, ends, goes, breaks, view, past-bounds, rest, walk-rest, walk-refused}
+use Rattle.partitions.proofs.WalkLaws.{View, ends, goes, breaks, view, past-bounds, rest, walk-rest, walk-refused, rest-by-steps}
 use Rattle.partitions.proofs.CheckLaws.{check-refused}
 
 -- a step that goes on: the partition stands here, and ends inside the image
@@ -53,28 +53,15 @@ next-goes image at p c e = go (stepAt image at) (view image at) e
 module _ (image : List ℕ) (P : ℕ → Walk → Type 0) (last : P (length image) (covered []))
     (step : (at : ℕ) (p : Partition) (c : Cursor) → Goes image at p c → (w : Walk) → P (c .at) w → P at (first p w))
     (stop : (at : ℕ) → at < length image → (f : HeaderFault) → P at (broken (BadHeader f at))) where
-  by-steps : (n at : ℕ) → at ≤ length image → length image - at < n → P at (walkFrom n image at)
-  unfolding walkFrom
-  by-steps zero at l f = absurd (omega arith)
-  by-steps (suc n) at l f = go (stepAt image at) (view image at) (by-steps n (pastOf image at))
-    where
-      go : (s : Step) → View image at s
-          → (pastOf image at ≤ length image → length image - pastOf image at < n → P (pastOf image at) (walkFrom n image (pastOf image at)))
-          → P at (onStep s (λ past. walkFrom n image past))
-      go End (ends e) ih = let z : at ≡ length image = omega arith in rw z last
-      go (Next p c) (goes i v) ih =
-          let g = valid-goes image at i v in
-          step at (partitionOf image at) (record { at = pastOf image at }) g (walkFrom n image (pastOf image at))
-          (ih (g .inside) (omega (arith, g .some, g .past)))
-      go (Broken x) (breaks i v) ih = let h = invalid-here image at x v in rw (h .1) (stop at i (h .0))
-
-  rest-by-steps : P 0 (rest image 0)
-  unfolding rest
-  rest-by-steps = by-steps (suc (length image - 0)) 0 (omega arith) (omega arith)
+  covers : P 0 (rest image 0)
+  covers =
+      rest-by-steps image P last
+      (λ at i v w h. step at (partitionOf image at) (record { at = pastOf image at }) (valid-goes image at i v) w h)
+      (λ at i e v. let h = invalid-here image at e v in rw (h .1) (stop at i (h .0)))
 
   pub walk-by-steps : P 0 (broken ImageLength) → P 0 (walk image)
   walk-by-steps one =
-      split (allowedLength (length image)) (λ t. rw (walk-rest image t) rest-by-steps) (λ t. rw (walk-refused image t) one)
+      split (allowedLength (length image)) (λ t. rw (walk-rest image t) covers) (λ t. rw (walk-refused image t) one)
 
 -- what the check of an image tells of its walk
 pub check-broken : (image : List ℕ) (e : Error) → checkOf image ≡ Refused e → walk image ≡ broken e

@@ -1,5 +1,5 @@
 -- What a caller sees of a step of the walk is its row, and a row that holds is what is seen.
-use Prim.Native.Nat.{ℕ, _≤_, _<_}
+use Prim.Native.Nat.{ℕ, _<_}
 use mathlib.Core.Path.{_≡_, ap, sym, subst, _∙_}
 use mathlib.Core.Logic.{_↔_}
 use mathlib.Core.List.{List}
@@ -8,11 +8,9 @@ use lib.ListN.{length}
 use Rattle.lists.specs.Bytes.{AllBytes}
 use Rattle.errors.specs.declared.HeaderFault.{HeaderFault}
 use Rattle.errors.specs.declared.HeaderFault.the-variants.{ZeroLength, PastEnd, Checksum, ZeroChecksum}
-use Rattle.errors.specs.declared.Error.{Error}
 use Rattle.errors.specs.declared.Error.the-variants.{BadHeader}
 use Rattle.errors.specs.Errors.{headerCode}
 use Rattle.header.specs.declared.Validity.the-variants.{Invalid}
-use Rattle.header.specs.Header.{validityAt}
 use Rattle.header.specs.Rules.{Sound, Breaks}
 use Rattle.header.proofs.ValidityLaws.{invalid-here}
 use Rattle.header.proofs.RuleLaws.{valid-exactly, invalid-exactly, sound-valid, breaks-invalid}

@@ -94,6 +94,30 @@ module _ (image : List ℕ) (at : ℕ) where
   pub rest-broken : (x : Error) → stepAt image at ≡ Broken x → rest image at ≡ broken x
   rest-broken x e = rest-step image at ∙ ap (λ (s : Step). onStep s (rest image)) e
 
+-- INDUCTION over the walk: what holds at the image's end and at a header that breaks a rule, and before a partition where it
+-- holds after it, holds of what the walk finds
+module _ (image : List ℕ) (P : ℕ → Walk → Type 0) (last : P (length image) (covered []))
+    (step : (at : ℕ) → at < length image → validityAt image at ≡ Valid → (w : Walk) → P (pastOf image at) w
+    → P at (first (partitionOf image at) w))
+    (stop : (at : ℕ) → at < length image → (e : Error) → validityAt image at ≡ Invalid e → P at (broken e)) where
+  by-steps : (n at : ℕ) → at ≤ length image → length image - at < n → P at (walkFrom n image at)
+  unfolding walkFrom
+  by-steps zero at l f = absurd (omega arith)
+  by-steps (suc n) at l f = go (stepAt image at) (view image at) (by-steps n (pastOf image at))
+    where
+      go : (s : Step) → View image at s
+          → (pastOf image at ≤ length image → length image - pastOf image at < n → P (pastOf image at) (walkFrom n image (pastOf image at)))
+          → P at (onStep s (λ past. walkFrom n image past))
+      go End (ends e) ih = let z : at ≡ length image = omega arith in rw z last
+      go (Next p c) (goes i v) ih =
+          let b = past-bounds image at i v in
+          step at i v (walkFrom n image (pastOf image at)) (ih (b .1) (omega (arith, b .0)))
+      go (Broken x) (breaks i v) ih = stop at i x v
+
+  pub rest-by-steps : P 0 (rest image 0)
+  unfolding rest
+  rest-by-steps = by-steps (suc (length image - 0)) 0 (omega arith) (omega arith)
+
 -- a step that goes on, goes on inside the image
 pub next-bounds : (image : List ℕ) (at : ℕ) (p : Partition) (c : Cursor) → stepAt image at ≡ Next p c → (at < c .at) × (c .at ≤ length image)
 next-bounds image at p c e = go (stepAt image at) (view image at) e
