@@ -1,8 +1,10 @@
--- The demands applied to the example image E: each premise is discharged.
+-- The demands applied to the example image E: each premise is discharged, for a request and a list of calls of every kind.
 use Prim.Native.Nat.{ℕ}
 use mathlib.Core.Path.{_≡_, refl}
 use mathlib.Core.Bool.{Bool, true, _&&_}
 use mathlib.Core.List.{List, [], _∷_}
+use mathlib.Core.Logic.{inl, inr}
+use lib.ListN.{length}
 use lib.Dec.{ltb}
 use borrow.Author.Tests.{ltb-true}
 use Rattle.lists.specs.Bytes.{AllBytes, sameBytes, stands}
@@ -20,11 +22,13 @@ use Rattle.values.specs.Value.{decode, decodeFrom, run, runByte}
 use Rattle.pairs.specs.Scan.{storedName, scanName, scanValue, standAt}
 use Rattle.pairs.specs.Area.{pairOf, pairBytes, parseFrom, parse}
 use Rattle.pairs.specs.Rules.{Entry, WellFormed}
-use Rattle.variables.specs.Calls.{Call}
+use Rattle.variables.specs.Calls.{Call, set, remove, read, normalize, count}
 use Rattle.pairs.proofs.EntryLaws.{parse-exactly}
 use Rattle.nvram.specs.Common.{HasCommon, commonOf}
 use Rattle.nvram.proofs.CommonLaws.{common-exactly}
-use Rattle.demands.specs.Requests.{Request}
+use Rattle.demands.specs.Requests.{Request, variable}
+use Rattle.demands.specs.Model.{runModel, canonicalArea}
+use Rattle.demands.specs.Library.{runImage}
 use Rattle.demands.specs.Demands.{RequestBytes, CallsBytes, Demand1, Demand2, Demand3}
 use Rattle.demands.proofs.DemandsLaws.{demands}
 
@@ -70,3 +74,25 @@ example-2 = demands .demand-2 E example-bytes
 -- DEMAND 3 of every list of calls on E
 pub example-3 : (calls : List Call) → CallsBytes calls → Demand3 E 0 held calls
 example-3 calls b = demands .demand-3 E first held calls example-bytes b example-common example-formed
+
+-- a set, and calls of every kind, lend bytes
+example-set-bytes : RequestBytes (variable (set (0x62 ∷ []) (0x00 ∷ 0xFF ∷ [])))
+example-set-bytes = tested (0x00 ∷ 0xFF ∷ []) refl
+
+abbrev every-kind : List Call
+every-kind = set (0x62 ∷ []) (0x00 ∷ 0xFF ∷ []) ∷ read (0x62 ∷ []) (0x05 ∷ []) ∷ remove (0x61 ∷ []) ∷ normalize ∷ count ∷ []
+
+every-kind-bytes : CallsBytes every-kind
+every-kind-bytes = (example-set-bytes, (tt, (tt, (tt, (tt, tt)))))
+
+-- DEMAND 1 of a set, and DEMAND 3 of calls of every kind: no premise is left
+pub example-set : Demand1 (variable (set (0x62 ∷ []) (0x00 ∷ 0xFF ∷ []))) E
+example-set = example-1 (variable (set (0x62 ∷ []) (0x00 ∷ 0xFF ∷ []))) example-set-bytes
+
+pub example-calls : Demand3 E 0 held every-kind
+example-calls = example-3 every-kind every-kind-bytes
+
+-- and the area afterwards is canonical, since a normalizing stands among them
+pub example-canonical : areaAt (runImage every-kind E .image) 0
+    ≡ canonicalArea (length (areaAt E 0)) (runModel every-kind (record { room = length (areaAt E 0); entries = held }) .model .entries)
+example-canonical = example-calls .canonical (inr (inr (inr (inr (inl refl)))))

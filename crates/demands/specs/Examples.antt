@@ -23,6 +23,7 @@ use Rattle.variables.specs.Edits.{areaBytes, setPair, normalizePairs, lookup}
 use Rattle.variables.specs.Calls.{set, read, normalize, count, callCheck, setIn, callPairs, callArea}
 use Rattle.nvram.specs.Common.{commonOf}
 use Rattle.nvram.specs.Calls.{Told, callImage}
+use Rattle.demands.specs.Library.{runImage}
 
 -- an answer with no buffer
 abbrev told : ℕ → ℕ → ℕ → Told
@@ -107,6 +108,18 @@ examples = record {
   ten-9 = refl;
   eleven = refl;
 }
+
+-- a list of calls on E: each is told in its order, on the image as the one before left it
+pub run-example : runImage (set (0x62 ∷ []) (0x00 ∷ 0x00 ∷ 0xFF ∷ []) ∷ read (0x62 ∷ []) (replicate 4 0x05) ∷ count ∷ []) E
+    ≡ record {
+      told = told 0 0 0 ∷ record { code = 0; offset = 0; amount = 3; buffer = 0x00 ∷ 0x00 ∷ 0xFF ∷ 0x05 ∷ [] } ∷ told 0 0 2 ∷ [];
+      image = six;
+    }
+unfolding runImage callImage commonOf callArea callPairs setIn callCheck nameCheck nameCheckFrom nameByte parse parseFrom standAt
+    storedName scanName scanValue stands sameBytes areaBytes setPair normalizePairs lookup pairsBytes pairBytes encode encodeFrom
+    runBytes fullEscapes restEscape mark decode decodeFrom run runByte pasted checkOf checkedBy walk walkFrom stepAt allowedLength
+    partitionOf pastOf validityAt validityOf headerAt nameAt sumFrom padded sameName matches firstMatch findBy findOf areaOf
+run-example = refl
 
 -- the limits, each at its last allowed number and one step past it
 pub record Limits : Type 0 where

@@ -74,6 +74,11 @@ module _ (signature : ℕ) (blocks : Blocks) (name : List ℕ) where
           })
           ∙ sym new-sealed
 
+      -- WITH THE FIELDS that it was made of
+      pub new-fields : (headerAt image at .signature ≡ signature) × (headerAt image at .length ≡ blocks) × (headerAt image at .name ≡ name)
+      unfolding headerAt
+      new-fields = (fields .signed, (λ i. record { 0 = blocks-is i }), fields .named)
+
       module _ (byte : signature < 256) (bytes : AllBytes name) where
         all : AllBytes over
         all = (byte, (omega arith, (omega arith, bytes)))

@@ -63,6 +63,8 @@ pub record Examples : Type 0 where
   pub no-checksum : listingText (0x70 ∷ 0x00 ∷ drop 2 E) ≡ refused4
   pub no-bytes : listingText [] ≡ refused1
   pub odd-names : listingText oddNames ≡ textOddNames
+  -- one byte above the longest image that is listed: "too long"
+  pub too-long : listingText (replicate 65_537 0x00) ≡ 0x74 ∷ 0x6F ∷ 0x6F ∷ 0x20 ∷ 0x6C ∷ 0x6F ∷ 0x6E ∷ 0x67 ∷ 0x0A ∷ []
   pub zero : decimal 0 ≡ 0x30 ∷ []
   pub nine : decimal 9 ≡ 0x39 ∷ []
   pub ten : decimal 10 ≡ 0x31 ∷ 0x30 ∷ []
@@ -80,6 +82,7 @@ examples =
       no-checksum = refl;
       no-bytes = refl;
       odd-names = refl;
+      too-long = refl;
       zero = refl;
       nine = refl;
       ten = refl;

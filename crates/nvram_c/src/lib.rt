@@ -1,13 +1,10 @@
 // The C boundary: each function returns the code, 0 where the call is done, and stores its outputs.
 // All but the listing store an offset; the other outputs are 0 with every code from 1 up.
 ghost use mathlib.Core.Path.{_≡_};
-ghost use lib.ListN as List;
-ghost use Rattle.lists.specs.Pasted.{writtenIn};
 ghost use Rattle.variables.specs.Calls.{set, remove, normalize, read, count};
 ghost use Rattle.demands.specs.Requests.{variable, check, partition, find};
 ghost use Rattle.demands.specs.Library.{seen};
-ghost use Rattle.listing.specs.Text.{listingText};
-ghost use Rattle.listing.specs.Listed.{listedOf, listAnswer};
+ghost use Rattle.listing.specs.Listed.{seenListing};
 
 // Checks an image: the number of partitions that cover it.
 #[no_mangle]
@@ -140,9 +137,9 @@ pub extern "C" fn nvram_normalize(image: &mut [u8], offset: &mut usize) -> u32
 // Writes the listing of an image to the buffer's start: its length, or 14 and nothing written where it has no room.
 #[no_mangle]
 pub extern "C" fn nvram_listing(image: &[u8], text: &mut [u8], length: &mut usize) -> u32
-    ensures { λ r. ⌜ r ≡ listAnswer (listedOf (listingText (now (image .entry))) (List.length (now (text .entry)))) .code ⌝ }
-    ensures { λ _. ⌜ now (length .exit) ≡ listAnswer (listedOf (listingText (now (image .entry))) (List.length (now (text .entry)))) .length ⌝ }
-    ensures { λ _. ⌜ now (text .exit) ≡ writtenIn (listingText (now (image .entry))) (now (text .entry)) ⌝ }
+    ensures { λ r. ⌜ r ≡ seenListing (now (image .entry)) (now (text .entry)) .code ⌝ }
+    ensures { λ _. ⌜ now (length .exit) ≡ seenListing (now (image .entry)) (now (text .entry)) .amount ⌝ }
+    ensures { λ _. ⌜ now (text .exit) ≡ seenListing (now (image .entry)) (now (text .entry)) .buffer ⌝ }
 {
     let listed = listing::listing(image, text).answer();
     *length = listed.length;
