@@ -27,8 +27,8 @@ use Rattle.variables.proofs.EditLaws.{bytes-normalize, bytes-area, normalize-sh
 use Rattle.variables.proofs.CallLaws.{check-named, check-normalize, check-count, call-misnamed, call-parsed, set-short, set-done, remove-missing}
 use Rattle.variables.proofs.CallLaws.{remove-found, read-missing, read-short, read-done, normalize-done, count-done, split-lookup, split-room}
 use Rattle.nvram.specs.Calls.{Told, toldAt}
-use Rattle.demands.specs.Model.{Model, total, setEntry, dropEntry, newSizes, Value, valueOf, Stepped, says, denies, keeps, becomes, setStep}
-use Rattle.demands.specs.Model.{removeStep, readStep, actionStep, callModel, canonicalArea}
+use Rattle.demands.specs.Model.{Model, total, setEntry, dropEntry, newSizes, Value, valueOf, ModelResult, says, denies, keeps, becomes, setModel}
+use Rattle.demands.specs.Model.{removeModel, readModel, actionModel, callModel, canonicalArea}
 use Rattle.demands.specs.Demands.{ActionBytes, CallBytes}
 use Rattle.demands.proofs.ModelLaws.{entries-set, entries-remove, entries-normalize, valueFor, value-entries, count-entries, total-entries}
 use Rattle.demands.proofs.ModelLaws.{canonical-area}
@@ -65,7 +65,7 @@ module _ (m : Model) where
   unfolding callModel
   step-misnamed name action at g = rw g
 
-  step-named : (name : List ℕ) (action : Action) → nameCheck name ≡ Good → callModel (named name action) m ≡ actionStep action name m
+  step-named : (name : List ℕ) (action : Action) → nameCheck name ≡ Good → callModel (named name action) m ≡ actionModel action name m
   unfolding callModel
   step-named name action g = rw g
 
@@ -80,7 +80,7 @@ module _ (m : Model) where
 -- ---- one call, of both
 
 -- an area of the pairs ps at offset n of the image, and its model: both have told the same, and the new model is that of the new area
-pub record Agree (n : ℕ) (call : Call) (area : List ℕ) (ps : List Pair) (o : Outcome) (s : Stepped) : Type 0 where
+pub record Agree (n : ℕ) (call : Call) (area : List ℕ) (ps : List Pair) (o : Outcome) (s : ModelResult) : Type 0 where
   pub pairs : List Pair
   pub reads : parse (o .area) ≡ parsed pairs
   pub told : toldAt n (o .reply) (o .buffer) ≡ s .told
@@ -94,7 +94,7 @@ module _ (n : ℕ) (area : List ℕ) (ps : List Pair) (r : parse area ≡ parsed
   abbrev m : Model
   m = modelOf area ps
 
-  agree-as : {call : Call} {o o′ : Outcome} {s s′ : Stepped} → o ≡ o′ → s ≡ s′ → Agree n call area ps o′ s′ → Agree n call area ps o s
+  agree-as : {call : Call} {o o′ : Outcome} {s s′ : ModelResult} → o ≡ o′ → s ≡ s′ → Agree n call area ps o′ s′ → Agree n call area ps o s
   agree-as e f a = rw (e, f) a
 
   -- nothing changes
@@ -132,7 +132,7 @@ module _ (n : ℕ) (area : List ℕ) (ps : List Pair) (r : parse area ≡ parsed
 
   module _ (name : List ℕ) (g : NameRule name) where
     agree-set : (value : List ℕ) → AllBytes value
-        → Agree n (set name value) area ps (callPairs (set name value) ps area) (setStep (setEntry name value (entriesOf ps)) m)
+        → Agree n (set name value) area ps (callPairs (set name value) ps area) (setModel (setEntry name value (entriesOf ps)) m)
     agree-set value h =
         let qs : List Pair = setPair name value ps in
         let c : setEntry name value (entriesOf ps) ≡ entriesOf qs = sym (entries-set name value ps) in
@@ -144,36 +144,36 @@ module _ (n : ℕ) (area : List ℕ) (ps : List Pair) (r : parse area ≡ parsed
         (λ l. agree-as (set-short name value ps area l) (rw (lt-ltb (length area) (total (setEntry name value (entriesOf ps)) + 1) (omega arith)))
         (stay (set name value) (refused NoRoom) [] (denies 13 0 []) (λ q. clash (cc)) refl))
 
-    agree-remove : Agree n (remove name) area ps (callPairs (remove name) ps area) (removeStep (valueOf name (entriesOf ps)) name m)
+    agree-remove : Agree n (remove name) area ps (callPairs (remove name) ps area) (removeModel (valueOf name (entriesOf ps)) name m)
     agree-remove =
         let v = value-entries name ps in
         split-lookup (lookup name ps)
-        (λ value f. agree-as (remove-found name ps area f) (ap (λ (x : Value). removeStep x name m) (v ∙ ap valueFor f))
+        (λ value f. agree-as (remove-found name ps area f) (ap (λ (x : Value). removeModel x name m) (v ∙ ap valueFor f))
         (edit (remove name) (dropEntry name (entriesOf ps)) (removePair name ps) (good-remove name good)
         (omega (arith, room, remove-room name ps)) (bytes-remove name good stored) (sym (entries-remove name ps))
         (λ w. normalize-remove name ps ∙ ap (removePair name) w) (λ q. clash (cc))))
-        (λ f. agree-as (remove-missing name ps area f) (ap (λ (x : Value). removeStep x name m) (v ∙ ap valueFor f))
+        (λ f. agree-as (remove-missing name ps area f) (ap (λ (x : Value). removeModel x name m) (v ∙ ap valueFor f))
         (stay (remove name) (refused NoVariable) [] (denies 12 0 []) (λ q. clash (cc)) refl))
 
     agree-read : (buffer : List ℕ)
-        → Agree n (read name buffer) area ps (callPairs (read name buffer) ps area) (readStep (valueOf name (entriesOf ps)) buffer m)
+        → Agree n (read name buffer) area ps (callPairs (read name buffer) ps area) (readModel (valueOf name (entriesOf ps)) buffer m)
     agree-read buffer =
         let v = value-entries name ps in
         split-lookup (lookup name ps)
         (λ value f.
-        let s : readStep (valueOf name (entriesOf ps)) buffer m ≡ readStep (Value.some value) buffer m =
-        ap (λ (x : Value). readStep x buffer m) (v ∙ ap valueFor f) in
+        let s : readModel (valueOf name (entriesOf ps)) buffer m ≡ readModel (Value.some value) buffer m =
+        ap (λ (x : Value). readModel x buffer m) (v ∙ ap valueFor f) in
         split-room (length value) (length buffer)
         (λ l. agree-as (read-done name ps area buffer f l) (s ∙ rw (le-ltb (length buffer) (length value) l))
         (stay (read name buffer) (done (length value)) (pasted buffer 0 value) (says (length value) (value ++ drop (length value) buffer))
         (λ q. clash (cc)) (ap (says (length value)) (pasted-first buffer value))))
         (λ l. agree-as (read-short name ps area buffer f l) (s ∙ rw (lt-ltb (length buffer) (length value) l))
         (stay (read name buffer) (refused ShortBuffer) buffer (denies 14 0 buffer) (λ q. clash (cc)) refl)))
-        (λ f. agree-as (read-missing name ps area buffer f) (ap (λ (x : Value). readStep x buffer m) (v ∙ ap valueFor f))
+        (λ f. agree-as (read-missing name ps area buffer f) (ap (λ (x : Value). readModel x buffer m) (v ∙ ap valueFor f))
         (stay (read name buffer) (refused NoVariable) buffer (denies 12 0 buffer) (λ q. clash (cc)) refl))
 
     agree-action : (action : Action) → ActionBytes action
-        → Agree n (named name action) area ps (callPairs (named name action) ps area) (actionStep action name m)
+        → Agree n (named name action) area ps (callPairs (named name action) ps area) (actionModel action name m)
     agree-action (setTo value) h = agree-set value h
     agree-action removal h = agree-remove
     agree-action (readInto buffer) h = agree-read buffer

@@ -12,3 +12,4 @@ pub mod TableRows
 pub mod TableLaws
 pub mod DemandsLaws
 pub mod OnExample
+pub mod RunExample

@@ -20,7 +20,7 @@ use Rattle.nvram.specs.Calls.{Result, callImage}
 use Rattle.nvram.proofs.CommonLaws.{common-exactly, common-among, common-kept}
 use Rattle.nvram.proofs.CallLaws.{call-image}
 use Rattle.demands.specs.Library.{Results, runImage}
-use Rattle.demands.specs.Model.{Model, Stepped, callModel, Run, runModel, canonicalArea}
+use Rattle.demands.specs.Model.{Model, ModelResult, callModel, ModelResults, runModel, canonicalArea}
 use Rattle.demands.specs.Demands.{CallBytes, CallsBytes, Normalizes, Demand3}
 use Rattle.demands.proofs.Agree.{modelOf, InForm, in-form-area, area-in-form, Agree, agree}
 
@@ -76,7 +76,7 @@ leads-on l k = record {
 -- ---- one call
 
 -- another area in the place of the first
-leads-area : (p : Partition) (I : List ℕ) (ps : List Pair) → State p I ps → {call : Call} {o : Outcome} {s : Stepped}
+leads-area : (p : Partition) (I : List ℕ) (ps : List Pair) → State p I ps → {call : Call} {o : Outcome} {s : ModelResult}
     → Agree (p .offset + 16) call (areaIn p I) ps o s → Leads p I ps (pasted I (p .offset + 16) (o .area)) (s .model) (call ≡ normalize)
 leads-area p I ps h {o = o} a =
     let m = common-among I p (h .place) in
@@ -113,7 +113,7 @@ module _ (p : Partition) (I : List ℕ) (ps : List Pair) (h : State p I ps) (cal
 -- ---- a list of calls
 
 -- the image I and its model, after the calls: all told the same, and the model is that of the image
-record Together (p : Partition) (I : List ℕ) (ps : List Pair) (calls : List Call) (rs : Results) (r : Run) : Type 0 where
+record Together (p : Partition) (I : List ℕ) (ps : List Pair) (calls : List Call) (rs : Results) (r : ModelResults) : Type 0 where
   told : rs .told ≡ r .told
   leads : Leads p I ps (rs .image) (r .model) (Normalizes calls)
 
@@ -122,7 +122,7 @@ unfolding runImage runModel
 together-none p I ps h = record { told = refl; leads = leads-none p I ps h }
 
 -- a call and those after it; m is the model that the call leaves
-together-more : (p : Partition) (I : List ℕ) (ps : List Pair) (call : Call) (calls : List Call) (r : Result) (s : Stepped)
+together-more : (p : Partition) (I : List ℕ) (ps : List Pair) (call : Call) (calls : List Call) (r : Result) (s : ModelResult)
     (l : Leads p I ps (r .image) (s .model) (call ≡ normalize))
     → r .told ≡ s .told → Together p (r .image) (l .pairs) calls (runImage calls (r .image)) (runModel calls (modelOf (areaIn p (r .image)) (l .pairs)))
     → Together p I ps (call ∷ calls) (record { told = r .told ∷ runImage calls (r .image) .told; image = runImage calls (r .image) .image })

@@ -23,10 +23,9 @@ use Rattle.variables.specs.Edits.{areaBytes, setPair, normalizePairs, lookup}
 use Rattle.variables.specs.Calls.{set, read, normalize, count, callCheck, setIn, callPairs, callArea}
 use Rattle.nvram.specs.Common.{commonOf}
 use Rattle.nvram.specs.Calls.{Told, callImage}
-use Rattle.demands.specs.Library.{runImage}
 
 -- an answer with no buffer
-abbrev told : ℕ → ℕ → ℕ → Told
+abbrev pub told : ℕ → ℕ → ℕ → Told
 told code offset amount = record { code = code; offset = offset; amount = amount; buffer = [] }
 
 -- E with another area of 16 bytes
@@ -34,7 +33,7 @@ abbrev holding : List ℕ → List ℕ
 holding area = take 16 E ++ (area ++ drop 32 E)
 
 -- E after example 6
-abbrev six : List ℕ
+abbrev pub six : List ℕ
 six = holding (0x61 ∷ 0x3D ∷ 0x31 ∷ 0x00 ∷ 0x62 ∷ 0x3D ∷ 0xFF ∷ 0x02 ∷ 0xFF ∷ 0x81 ∷ 0x00 ∷ replicate 5 0x00)
 
 -- E after `c` is set too: the ending 0x00 is the area's sixteenth byte
@@ -59,6 +58,10 @@ pub record Examples : Type 0 where
   pub five-past : checkOf (0x70 ∷ 0xFD ∷ 0x00 ∷ 0x03 ∷ drop 4 (take 32 E)) ≡ Refused (BadHeader PastEnd 0)
   pub five-zero : checkOf (0x70 ∷ 0xFD ∷ 0x00 ∷ 0x00 ∷ drop 4 (take 32 E)) ≡ Refused (BadHeader ZeroLength 0)
   pub six-set : callImage (set (0x62 ∷ []) (0x00 ∷ 0x00 ∷ 0xFF ∷ [])) E ≡ record { told = told 0 0 0; image = six }
+  -- what 6 leaves is read into four bytes, and counted
+  pub six-read : callImage (read (0x62 ∷ []) (replicate 4 0x05)) six
+      ≡ record { told = record { code = 0; offset = 0; amount = 3; buffer = 0x00 ∷ 0x00 ∷ 0xFF ∷ 0x05 ∷ [] }; image = six }
+  pub six-count : callImage count six ≡ record { told = told 0 0 2; image = six }
   pub seven-fits : callImage (set (0x63 ∷ []) (0x31 ∷ [])) six ≡ record { told = told 0 0 0; image = seven }
   pub seven-room : callImage (set (0x63 ∷ []) (0x31 ∷ 0x32 ∷ [])) six ≡ record { told = told 13 0 0; image = six }
   pub eight-127 : encode (replicate 127 0x00) ≡ 0xFF ∷ 0x7F ∷ []
@@ -94,6 +97,8 @@ examples = record {
   five-past = refl;
   five-zero = refl;
   six-set = refl;
+  six-read = refl;
+  six-count = refl;
   seven-fits = refl;
   seven-room = refl;
   eight-127 = refl;
@@ -108,18 +113,6 @@ examples = record {
   ten-9 = refl;
   eleven = refl;
 }
-
--- a list of calls on E: each is told in its order, on the image as the one before left it
-pub run-example : runImage (set (0x62 ∷ []) (0x00 ∷ 0x00 ∷ 0xFF ∷ []) ∷ read (0x62 ∷ []) (replicate 4 0x05) ∷ count ∷ []) E
-    ≡ record {
-      told = told 0 0 0 ∷ record { code = 0; offset = 0; amount = 3; buffer = 0x00 ∷ 0x00 ∷ 0xFF ∷ 0x05 ∷ [] } ∷ told 0 0 2 ∷ [];
-      image = six;
-    }
-unfolding runImage callImage commonOf callArea callPairs setIn callCheck nameCheck nameCheckFrom nameByte parse parseFrom standAt
-    storedName scanName scanValue stands sameBytes areaBytes setPair normalizePairs lookup pairsBytes pairBytes encode encodeFrom
-    runBytes fullEscapes restEscape mark decode decodeFrom run runByte pasted checkOf checkedBy walk walkFrom stepAt allowedLength
-    partitionOf pastOf validityAt validityOf headerAt nameAt sumFrom padded sameName matches firstMatch findBy findOf areaOf
-run-example = refl
 
 -- the limits, each at its last allowed number and one step past it
 pub record Limits : Type 0 where

@@ -57,7 +57,7 @@ valueOf name [] = none
 valueOf name (e ∷ es) = elim (same name (e .name)) [ true ↦ some (e .value) | false ↦ valueOf name es ]
 
 -- what the caller is told, and the model afterwards
-pub record Stepped : Type 0 where
+pub record ModelResult : Type 0 where
   pub told : Told
   pub model : Model
 
@@ -70,50 +70,50 @@ abbrev pub denies : ℕ → ℕ → List ℕ → Told
 denies code offset buffer = record { code = code; offset = offset; amount = 0; buffer = buffer }
 
 -- a refusal leaves the model
-abbrev pub keeps : Told → Model → Stepped
+abbrev pub keeps : Told → Model → ModelResult
 keeps t m = record { told = t; model = m }
 
-abbrev pub becomes : List Entry → Model → Stepped
+abbrev pub becomes : List Entry → Model → ModelResult
 becomes es m = record { told = says 0 []; model = record { room = m .room; entries = es } }
 
 -- 12 if no entry has the name
-abbrev pub removeStep : Value → List ℕ → Model → Stepped
-removeStep (some value) name m = becomes (dropEntry name (m .entries)) m
-removeStep none name m = keeps (denies 12 0 []) m
+abbrev pub removeModel : Value → List ℕ → Model → ModelResult
+removeModel (some value) name m = becomes (dropEntry name (m .entries)) m
+removeModel none name m = keeps (denies 12 0 []) m
 
 -- 12 as above; 14 if the buffer is shorter than the value; else the value at its start with the bytes after it kept
-abbrev pub readStep : Value → List ℕ → Model → Stepped
-readStep (some value) buffer m =
+abbrev pub readModel : Value → List ℕ → Model → ModelResult
+readModel (some value) buffer m =
     cond (ltb (length buffer) (length value)) (keeps (denies 14 0 buffer) m)
     (keeps (says (length value) (value ++ drop (length value) buffer)) m)
-readStep none buffer m = keeps (denies 12 0 buffer) m
+readModel none buffer m = keeps (denies 12 0 buffer) m
 
 -- 13 if the sum of all sizes, plus 1, exceeds the area's length
-abbrev pub setStep : List Entry → Model → Stepped
-setStep es m = cond (ltb (m .room) (total es + 1)) (keeps (denies 13 0 []) m) (becomes es m)
+abbrev pub setModel : List Entry → Model → ModelResult
+setModel es m = cond (ltb (m .room) (total es + 1)) (keeps (denies 13 0 []) m) (becomes es m)
 
 -- what is done with an entry, by a name that keeps the rule
-abbrev pub actionStep : Action → List ℕ → Model → Stepped
-actionStep (setTo value) name m = setStep (setEntry name value (m .entries)) m
-actionStep removal name m = removeStep (valueOf name (m .entries)) name m
-actionStep (readInto buffer) name m = readStep (valueOf name (m .entries)) buffer m
+abbrev pub actionModel : Action → List ℕ → Model → ModelResult
+actionModel (setTo value) name m = setModel (setEntry name value (m .entries)) m
+actionModel removal name m = removeModel (valueOf name (m .entries)) name m
+actionModel (readInto buffer) name m = readModel (valueOf name (m .entries)) buffer m
 
 -- one call; 11 if the name breaks the name rule
-unfoldable pub callModel : Call → Model → Stepped
-callModel (named name action) m = onCheck (nameCheck name) (actionStep action name m) (λ at. keeps (denies 11 0 (lentBy action)) m)
+unfoldable pub callModel : Call → Model → ModelResult
+callModel (named name action) m = onCheck (nameCheck name) (actionModel action name m) (λ at. keeps (denies 11 0 (lentBy action)) m)
 callModel normalize m = becomes (newSizes (m .entries)) m
 callModel count m = keeps (says (length (m .entries)) []) m
 
 -- a list of calls
-pub record Run : Type 0 where
+pub record ModelResults : Type 0 where
   pub told : List Told
   pub model : Model
 
-unfoldable pub runModel : List Call → Model → Run
+unfoldable pub runModel : List Call → Model → ModelResults
 runModel [] m = record { told = []; model = m }
 runModel (call ∷ calls) m =
-    let s : Stepped = callModel call m in
-    let r : Run = runModel calls (s .model) in
+    let s : ModelResult = callModel call m in
+    let r : ModelResults = runModel calls (s .model) in
     record { told = s .told ∷ r .told; model = r .model }
 
 -- the canonical form of entries as an area of a length: each pair with its value in canonical form, then 0x00 to the end
