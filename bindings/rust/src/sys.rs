@@ -1,6 +1,6 @@
 //! The C boundary as it is declared in `nvram.h`.
 //!
-//! Each function answers the error code, and stores the offset and its outputs in any case.
+//! Each function answers the error code, and stores its outputs in any case.
 //! The pointers must be valid for the lengths beside them, not null even where the length is 0, and must not overlap.
 
 extern "C" {

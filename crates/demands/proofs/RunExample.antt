@@ -1,5 +1,5 @@
 -- A list of calls on E: each is told in its order, on the image as the one before left it.
-use mathlib.Core.Path.{_≡_, refl}
+use mathlib.Core.Path.{_≡_}
 use mathlib.Core.List.{[], _∷_}
 use lib.ListN.{replicate}
 use Rattle.partitions.specs.Examples.{E}

@@ -61,7 +61,7 @@ module _ (I : List ℕ) (bytes : AllBytes I) where
       named = n;
       partition = w .partition;
       holds = common-exactly I bytes (w .partition) .0 (w .found);
-      stands = w .stands;
+      at-offset = w .at-offset;
       pairs = ps;
       once = o;
     }
@@ -173,7 +173,7 @@ module _ (I : List ℕ) (bytes : AllBytes I) where
       (λ at t. same-row (misnamed-seen call I at t) (eleven-row call I at t))
     where
       go : callCheck call ≡ Good → (f : Found) → commonOf I ≡ f → Answers I (variable call) (seen (variable call) I)
-      go t (At p) e = common-row (p .offset) (record { partition = p; found = e; stands = refl }) call b t
+      go t (At p) e = common-row (p .offset) (record { partition = p; found = e; at-offset = refl }) call b t
       go t (Refused x) e =
           same-row (refused-call I bytes call x t e)
           (missed-row (variable call) I x (named-well call t) (missed-common I bytes call x e))

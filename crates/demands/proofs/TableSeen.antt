@@ -31,11 +31,11 @@ use Rattle.demands.proofs.TablePlaces.{pasted-becomes, becomes-pasted}
 pub record CommonAt (I : List ℕ) (a : ℕ) : Type 0 where
   pub partition : Partition
   pub found : commonOf I ≡ At partition
-  pub stands : partition .offset ≡ a
+  pub at-offset : partition .offset ≡ a
 
 pub pair-common : {I : List ℕ} {call : Call} {a : ℕ} {es : List Entry} {rest : List ℕ} → AllBytes I → AtPair call I a es rest → CommonAt I a
 pair-common {I} bytes h =
-    record { partition = h .partition; found = common-exactly I bytes (h .partition) .1 (h .holds); stands = h .stands }
+    record { partition = h .partition; found = common-exactly I bytes (h .partition) .1 (h .holds); at-offset = h .at-offset }
 
 -- an outcome in the area, as it is seen
 abbrev pub seenOutcome : List ℕ → ℕ → Outcome → Seen
@@ -46,26 +46,26 @@ module _ (I : List ℕ) (a : ℕ) (w : CommonAt I a) where
   among = common-among I (w .partition) (w .found)
 
   area-here : areaOf I (At (w .partition)) ≡ areaAt I a
-  area-here = among-area I (w .partition) among ∙ ap (areaAt I) (w .stands)
+  area-here = among-area I (w .partition) among ∙ ap (areaAt I) (w .at-offset)
 
   pub common-bytes : AllBytes I → AllBytes (areaAt I a)
   common-bytes bytes = rw area-here at (area-bytes I (At (w .partition)) bytes)
 
   area-kept : pasted I (a + 16) (areaAt I a) ≡ I
-  area-kept = sym (λ i. pasted I (w .stands i + 16) (area-here i)) ∙ area-same I (w .partition) (w .found)
+  area-kept = sym (λ i. pasted I (w .at-offset i + 16) (area-here i)) ∙ area-same I (w .partition) (w .found)
 
   -- the image that an edit leaves, and the relation that the table has for it
   pub edit-becomes : (area′ : List ℕ) → length area′ ≡ length (areaAt I a) → AreaBecomes I a area′ (pasted I (a + 16) area′)
   edit-becomes area′ n =
-      rw (w .stands) at (pasted-becomes I (w .partition) among area′ (n ∙ ap length (sym area-here)))
+      rw (w .at-offset) at (pasted-becomes I (w .partition) among area′ (n ∙ ap length (sym area-here)))
 
   pub becomes-edit : {area′ J : List ℕ} → AreaBecomes I a area′ J → pasted I (a + 16) area′ ≡ J
-  becomes-edit b = rw (w .stands) at (becomes-pasted I (w .partition) among (rw (← w .stands) at b))
+  becomes-edit b = rw (w .at-offset) at (becomes-pasted I (w .partition) among (rw (← w .at-offset) at b))
 
   pub call-seen : (call : Call) → callCheck call ≡ Good → seen (variable call) I ≡ seenOutcome I a (callBy (parse (areaAt I a)) call (areaAt I a))
   call-seen call t =
       ap seenCall (call-image call I (w .partition) (w .found))
-      ∙ (λ i. seenOutcome I (w .stands i) (callArea call (area-here i)))
+      ∙ (λ i. seenOutcome I (w .at-offset i) (callArea call (area-here i)))
       ∙ ap (seenOutcome I a) (call-named call (areaAt I a) t)
 
   -- a refusal in the area

@@ -73,7 +73,7 @@ abbrev pub Normalizes : List Call → Type 0
 Normalizes [] = ⊥
 Normalizes (call ∷ calls) = (call ≡ normalize) ⊎ Normalizes calls
 
--- DEMAND 3: a taken image whose `common` stands at a, with an area of the entries es, and a list of calls
+-- DEMAND 3: an accepted image whose `common` stands at a, with an area of the entries es, and a list of calls
 pub record Demand3 (I : List ℕ) (a : ℕ) (es : List Entry) (calls : List Call) : Type 0 where
   -- every call has answered as the model does, which sees only the calls
   pub told : runImage calls I .told ≡ runModel calls (record { room = length (areaAt I a); entries = es }) .told

@@ -4,7 +4,7 @@ use mathlib.Core.List.{List, [], _∷_}
 use Rattle.partitions.specs.declared.Checked.{Checked}
 use Rattle.partitions.specs.declared.Found.{Found}
 use Rattle.partitions.specs.Find.{checkOf, indexOf, findOf, areaOf}
-use Rattle.partitions.specs.Answers.{checkAnswer, findAnswer}
+use Rattle.partitions.specs.Views.{checkAnswer, findAnswer}
 use Rattle.variables.specs.Calls.{Call}
 use Rattle.nvram.specs.Calls.{Told, Result, callImage}
 use Rattle.demands.specs.Requests.{Request, variable, check, partition, find, area, Seen}

@@ -1,5 +1,5 @@
 -- The table of codes (document 01: numbers) as one relation: a row for each, its premises in the order of checks, in relations on bytes.
--- Nothing here computes an answer, and nothing that computes an answer is used here.
+-- Nothing here computes an answer; what computes at all (`areaAt`, `length`, `take`, `drop`) only takes bytes of the image or the buffer.
 use Prim.Native.Nat.{ℕ, _+_, _≤_, _<_}
 use mathlib.Core.Path.{_≡_}
 use mathlib.Core.List.{List, [], _∷_}
@@ -44,7 +44,7 @@ pub record AtPair (call : Call) (I : List ℕ) (a : ℕ) (es : List Entry) (rest
   pub named : WellNamed (variable call)
   pub partition : Partition
   pub holds : HasCommon I partition
-  pub stands : partition .offset ≡ a
+  pub at-offset : partition .offset ≡ a
   pub pairs : Pairs es (areaAt I a) rest
   pub once : Once es
 
@@ -59,6 +59,7 @@ pub record Holding (value buffer buffer′ : List ℕ) : Type 0 where
   pub kept : drop (length value) buffer′ ≡ drop (length value) buffer
   pub long : length buffer′ ≡ length buffer
 
+-- all that is seen of a request on the image I, row by row
 pub data Answers (I : List ℕ) : Request → Seen → Type 0 where
   -- caller's variable name breaks the name rule
   eleven : {r : Request} {name : List ℕ} → Takes r name → ¬ (NameRule name) → Answers I r (refuses r I 11 0)

@@ -12,7 +12,7 @@ ghost use Rattle.values.specs.Value.{encode};
 ghost use Rattle.pairs.specs.Area.{pairBytes, parse};
 ghost use Rattle.pairs.specs.Helpers.{findAt};
 ghost use Rattle.variables.specs.Edits.{canonicalPair};
-ghost use Rattle.variables.specs.Answers.{editReply};
+ghost use Rattle.variables.specs.Views.{editReply};
 ghost use Rattle.variables.specs.Calls as Calls;
 ghost use Rattle.edits.specs.Helpers.{Used, tailShifted, replaceReply, replaceArea};
 

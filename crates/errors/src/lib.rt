@@ -70,7 +70,7 @@ pub enum Error {
     NoVariable,
     // 13: the pairs and the ending 0x00 exceed the area after the edit.
     NoRoom,
-    // 14: the caller's buffer is shorter than the value.
+    // 14: the caller's buffer is shorter than the value or the text.
     ShortBuffer,
 }
 

@@ -19,7 +19,7 @@ use Rattle.header.specs.declared.Validity.{Validity}
 use Rattle.header.specs.declared.Validity.the-variants.{Valid, Invalid}
 use Rattle.header.specs.Checksum.{sum, sumcheck, closedForm}
 use Rattle.header.specs.Header.{byteAt, nameAt, headerAt, bytesOf, coveredBytes, firstBroken, validityOf, validityAt, validityAnswer}
-use Rattle.header.specs.Rules.{blocksAt, checksumAt, Sound, Breaks, two, three, four, five, HeaderAnswers, is-sound, is-two, is-three, is-four, is-five}
+use Rattle.header.specs.Rules.{blocksAt, checksumAt, Sound, Breaks, two, three, four, five, HeaderRow, is-sound, is-two, is-three, is-four, is-five}
 use Rattle.header.proofs.SumLaws.{name-sum}
 use Rattle.header.proofs.ChecksumLaws.{closed-form, sum-covered}
 use Rattle.header.proofs.ValidityLaws.{zero-length, past-end, checksum-differs, checksum-zero, no-rule-broken, cut-off}
@@ -162,13 +162,13 @@ module _ (image : List ℕ) (at : ℕ) where
         go Valid (sound s) q = clash (cc)
         go (Invalid x) (faulty {f = g} b) q = let p : g ≡ f = cc in rw p at b
 
-    answer-row : (f : HeaderFault) → Breaks image at f → HeaderAnswers image at (record { code = headerCode f; offset = at })
+    answer-row : (f : HeaderFault) → Breaks image at f → HeaderRow image at (record { code = headerCode f; offset = at })
     answer-row ZeroLength b = is-two b
     answer-row PastEnd b = is-three b
     answer-row Checksum b = is-four b
     answer-row ZeroChecksum b = is-five b
 
-    answers-validity : {s : ValidityAnswer} → HeaderAnswers image at s → validityAnswer (validityAt image at) ≡ s
+    answers-validity : {s : ValidityAnswer} → HeaderRow image at s → validityAnswer (validityAt image at) ≡ s
     answers-validity (is-sound x) = ap validityAnswer (sound-valid x)
     answers-validity (is-two b) = ap validityAnswer (breaks-invalid b)
     answers-validity (is-three b) = ap validityAnswer (breaks-invalid b)
@@ -176,9 +176,9 @@ module _ (image : List ℕ) (at : ℕ) where
     answers-validity (is-five b) = ap validityAnswer (breaks-invalid b)
 
     -- THE CALLER'S VIEW of a header is its row
-    pub validity-exactly : (s : ValidityAnswer) → (validityAnswer (validityAt image at) ≡ s) ↔ HeaderAnswers image at s
-    validity-exactly s = (λ e. subst (HeaderAnswers image at) e (row (validityAt image at) judged), answers-validity)
+    pub validity-exactly : (s : ValidityAnswer) → (validityAnswer (validityAt image at) ≡ s) ↔ HeaderRow image at s
+    validity-exactly s = (λ e. subst (HeaderRow image at) e (row (validityAt image at) judged), answers-validity)
       where
-        row : (v : Validity) → Judged v → HeaderAnswers image at (validityAnswer v)
+        row : (v : Validity) → Judged v → HeaderRow image at (validityAnswer v)
         row Valid (sound x) = is-sound x
         row (Invalid e) (faulty {f = f} b) = answer-row f b

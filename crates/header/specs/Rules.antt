@@ -36,9 +36,9 @@ pub data Breaks (image : List ℕ) (at : ℕ) : HeaderFault → Type 0 where
       → byteAt image at 1 ≡ checksumAt image at → byteAt image at 1 ≡ 0 → Breaks image at ZeroChecksum
 
 -- what a caller sees of a header: 0 for a sound one, else the code of the first rule that it breaks, and its offset
-pub data HeaderAnswers (image : List ℕ) (at : ℕ) : ValidityAnswer → Type 0 where
-  is-sound : Sound image at → HeaderAnswers image at (record { code = 0; offset = 0 })
-  is-two : Breaks image at ZeroLength → HeaderAnswers image at (record { code = 2; offset = at })
-  is-three : Breaks image at PastEnd → HeaderAnswers image at (record { code = 3; offset = at })
-  is-four : Breaks image at Checksum → HeaderAnswers image at (record { code = 4; offset = at })
-  is-five : Breaks image at ZeroChecksum → HeaderAnswers image at (record { code = 5; offset = at })
+pub data HeaderRow (image : List ℕ) (at : ℕ) : ValidityAnswer → Type 0 where
+  is-sound : Sound image at → HeaderRow image at (record { code = 0; offset = 0 })
+  is-two : Breaks image at ZeroLength → HeaderRow image at (record { code = 2; offset = at })
+  is-three : Breaks image at PastEnd → HeaderRow image at (record { code = 3; offset = at })
+  is-four : Breaks image at Checksum → HeaderRow image at (record { code = 4; offset = at })
+  is-five : Breaks image at ZeroChecksum → HeaderRow image at (record { code = 5; offset = at })

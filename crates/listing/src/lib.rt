@@ -16,7 +16,7 @@ use partitions::Partition;
 use partitions::Step;
 
 // An image of more bytes is too long for a listing.
-const MAX_IMAGE: usize = 65536;
+const MAX_LISTED: usize = 65536;
 
 // What writing a listing answers.
 pub enum Listed {
@@ -310,7 +310,7 @@ pub fn listing(image: &[u8], text: &mut [u8]) -> Listed
     ensures { λ r. ⌜ r ≡ listedOf (listingText (now (image .entry))) (length (now (text .entry))) ⌝ }
     ensures { λ r. ⌜ now (text .exit) ≡ writtenIn (listingText (now (image .entry))) (now (text .entry)) ⌝ }
 {
-    if MAX_IMAGE < image.len() {
+    if MAX_LISTED < image.len() {
         return list_piece(text, b"too long\n");
     }
     let measured = measure(image);

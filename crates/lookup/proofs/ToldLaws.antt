@@ -7,7 +7,7 @@ use Rattle.errors.specs.Errors.{codeOf, offsetOf}
 use Rattle.partitions.specs.declared.Partition.{Partition}
 use Rattle.partitions.specs.declared.Found.{Found}
 use Rattle.partitions.specs.declared.Found.the-variants.{At, Refused}
-use Rattle.partitions.specs.Answers.{findAnswer}
+use Rattle.partitions.specs.Views.{findAnswer}
 use Rattle.partitions.specs.Find.{findOf, areaOf}
 use Rattle.partitions.proofs.AreaLaws.{area-refused}
 

@@ -4,7 +4,7 @@ ghost use lib.ListN.{getD};
 ghost use Rattle.header.specs.Header.{headerAt};
 ghost use Rattle.partitions.specs.Find.{sameName, findOf, areaOf};
 ghost use Rattle.partitions.specs.Helpers.{keepFirst};
-ghost use Rattle.partitions.specs.Answers.{findAnswer};
+ghost use Rattle.partitions.specs.Views.{findAnswer};
 use errors::Error;
 use header::Header;
 use partitions::Cursor;

@@ -29,7 +29,7 @@ use Rattle.variables.specs.declared.Edited.{Edited}
 use Rattle.variables.specs.declared.Edited.the-variants as Edited
 use Rattle.variables.specs.Calls.{Action, setTo, removal, readInto, Call, named, set, remove, normalize, read, count, lent, callCheck, Reply, callArea}
 use Rattle.variables.specs.Helpers.{replyOffset}
-use Rattle.variables.specs.Answers.{countReply, readReply, editReply}
+use Rattle.variables.specs.Views.{countReply, readReply, editReply}
 use Rattle.variables.proofs.CallLaws.{check-named, check-normalize, check-count, Bufferless, a-count, buffer-none, reply-inside}
 use Rattle.nvram.specs.declared.Span.{Span}
 use Rattle.nvram.specs.declared.Span.the-variants as Span

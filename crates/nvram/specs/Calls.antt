@@ -14,7 +14,7 @@ use Rattle.variables.specs.declared.Counted.{Counted}
 use Rattle.variables.specs.declared.Fetched.{Fetched}
 use Rattle.variables.specs.declared.Edited.{Edited}
 use Rattle.variables.specs.Calls.{Call, lent, callCheck, Reply, done, refused, Outcome, callArea}
-use Rattle.variables.specs.Answers.{doneAnswer, refusedAnswer, countedAnswer, fetchedAnswer, editedAnswer}
+use Rattle.variables.specs.Views.{doneAnswer, refusedAnswer, countedAnswer, fetchedAnswer, editedAnswer}
 use Rattle.nvram.specs.Common.{commonOf}
 
 -- what the caller is told by a call on variables: code, offset, a length or count, and the buffer afterwards

@@ -1,4 +1,4 @@
-// Every call on an image: the library's face.
+// Every call on an image.
 use errors::Error;
 use header::Header;
 use names::NameCheck;
@@ -13,7 +13,7 @@ ghost use Rattle.errors.specs.Errors.{offsetOf, moved};
 ghost use Rattle.names.specs.Name.{nameCheck};
 ghost use Rattle.variables.specs.Calls as Calls;
 ghost use Rattle.variables.specs.Helpers.{replyOffset};
-ghost use Rattle.variables.specs.Answers.{editReply};
+ghost use Rattle.variables.specs.Views.{editReply};
 ghost use Rattle.nvram.specs.Common.{commonOf};
 ghost use Rattle.nvram.specs.Calls.{countTold, readTold, editTold, toldAt, callImage};
 ghost use Rattle.nvram.specs.Helpers.{areaSpan, nameFirst};

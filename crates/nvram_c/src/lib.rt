@@ -105,9 +105,9 @@ pub extern "C" fn nvram_set(image: &mut [u8], name: &[u8], value: &[u8], offset:
     ensures { λ _. ⌜ now (offset .exit) ≡ seen (variable (set (now (name .entry)) (now (value .entry)))) (now (image .entry)) .offset ⌝ }
     ensures { λ _. ⌜ now (image .exit) ≡ seen (variable (set (now (name .entry)) (now (value .entry)))) (now (image .entry)) .image ⌝ }
 {
-    let setting = nvram::set(image, name, value).answer();
-    *offset = setting.offset;
-    setting.code
+    let edited = nvram::set(image, name, value).answer();
+    *offset = edited.offset;
+    edited.code
 }
 
 // Removes a variable: its pair is taken out, and the pairs after it close up.

@@ -18,8 +18,8 @@ use Rattle.partitions.specs.declared.Step.{Step}
 use Rattle.partitions.specs.declared.Step.the-variants.{Next, End, Broken}
 use Rattle.partitions.specs.declared.StepAnswer.{StepAnswer}
 use Rattle.partitions.specs.Walk.{stepAt, partitionOf, pastOf}
-use Rattle.partitions.specs.Answers.{noStep, stepAnswer}
-use Rattle.partitions.specs.Cover.{partitionAt, pastAt, StepAnswers, shows, ends, step-two, step-three, step-four, step-five}
+use Rattle.partitions.specs.Views.{noStep, stepAnswer}
+use Rattle.partitions.specs.Cover.{partitionAt, pastAt, StepRow, shows, ends, step-two, step-three, step-four, step-five}
 use Rattle.partitions.proofs.StepLaws.{step-end, step-next, step-broken}
 use Rattle.partitions.proofs.WalkLaws.{View, ends as at-end, goes, breaks, view}
 use Rattle.partitions.proofs.CoverLaws.{partition-same, past-same}
@@ -32,20 +32,20 @@ module _ (image : List ℕ) (at : ℕ) (bytes : AllBytes image) where
   onward-same : _≡_ {A = Step} (Next (partitionOf image at) (record { at = pastOf image at })) onward
   onward-same = λ i. Next (partition-same image at i) (record { at = past-same image at i })
 
-  onward-row : Sound image at → StepAnswers image at (stepAnswer onward)
+  onward-row : Sound image at → StepRow image at (stepAnswer onward)
   unfolding partitionAt
   onward-row s = shows s
 
-  fault-row : at < length image → (f : HeaderFault) → Breaks image at f → StepAnswers image at (noStep (headerCode f) at)
+  fault-row : at < length image → (f : HeaderFault) → Breaks image at f → StepRow image at (noStep (headerCode f) at)
   fault-row l ZeroLength b = step-two l b
   fault-row l PastEnd b = step-three l b
   fault-row l Checksum b = step-four l b
   fault-row l ZeroChecksum b = step-five l b
 
-  step-row : (s : Step) → View image at s → StepAnswers image at (stepAnswer s)
+  step-row : (s : Step) → View image at s → StepRow image at (stepAnswer s)
   step-row End (at-end l) = ends l
   step-row (Next p c) (goes l e) =
-      subst (λ (s : Step). StepAnswers image at (stepAnswer s)) (sym onward-same) (onward-row (valid-exactly image at bytes .0 e))
+      subst (λ (s : Step). StepRow image at (stepAnswer s)) (sym onward-same) (onward-row (valid-exactly image at bytes .0 e))
   step-row (Broken x) (breaks l e) =
       let h = invalid-here image at x e in
       rw (h .1) (fault-row l (h .0) (invalid-exactly image at bytes (h .0) .0 (e ∙ ap Invalid (h .1))))
@@ -53,7 +53,7 @@ module _ (image : List ℕ) (at : ℕ) (bytes : AllBytes image) where
   broken-seen : {f : HeaderFault} → at < length image → Breaks image at f → stepAnswer (stepAt image at) ≡ noStep (headerCode f) at
   broken-seen {f} l b = ap stepAnswer (step-broken image at l (BadHeader f at) (breaks-invalid image at bytes b))
 
-  row-step : {s : StepAnswer} → StepAnswers image at s → stepAnswer (stepAt image at) ≡ s
+  row-step : {s : StepAnswer} → StepRow image at s → stepAnswer (stepAt image at) ≡ s
   unfolding partitionAt
   row-step (shows x) =
       let l : at < length image = omega (arith, x .nonzero, x .inside) in
@@ -65,5 +65,5 @@ module _ (image : List ℕ) (at : ℕ) (bytes : AllBytes image) where
   row-step (step-five l b) = broken-seen l b
 
   -- A STEP ANSWERS exactly by its row
-  pub step-exactly : (s : StepAnswer) → (stepAnswer (stepAt image at) ≡ s) ↔ StepAnswers image at s
-  step-exactly s = (λ e. subst (StepAnswers image at) e (step-row (stepAt image at) (view image at)), row-step)
+  pub step-exactly : (s : StepAnswer) → (stepAnswer (stepAt image at) ≡ s) ↔ StepRow image at s
+  step-exactly s = (λ e. subst (StepRow image at) e (step-row (stepAt image at) (view image at)), row-step)

@@ -1,4 +1,4 @@
--- The same in relations on the image's bytes: no walk, no fuel, and nothing that computes an answer.
+-- The rules of an image as relations on its bytes; what computes here only reads the image's bytes.
 use Prim.Native.Nat.{ℕ, _+_, _-_, _*_, _%_, _≤_, _<_}
 use mathlib.Core.Path.{_≡_}
 use mathlib.Core.List.{List, [], _∷_, _++_}
@@ -99,17 +99,17 @@ pub record OutsideKept (image : List ℕ) (at : ℕ) (changed : List ℕ) : Type
   pub after : drop (pastAt image at) changed ≡ drop (pastAt image at) image
 
 -- what a caller sees of a step at an offset: the partition there and the next offset, the end, or the first rule that is broken
-pub data StepAnswers (image : List ℕ) (at : ℕ) : StepAnswer → Type 0 where
+pub data StepRow (image : List ℕ) (at : ℕ) : StepAnswer → Type 0 where
   shows : Sound image at
-      → StepAnswers image at
+      → StepRow image at
       (record { code = 0; offset = 0; header = at; blocks = blocksAt image at; signature = byteAt image at 0; next = pastAt image at })
   ends : length image ≤ at
-      → StepAnswers image at (record { code = 0; offset = 0; header = 0; blocks = 0; signature = 0; next = 0 })
+      → StepRow image at (record { code = 0; offset = 0; header = 0; blocks = 0; signature = 0; next = 0 })
   step-two : at < length image → Breaks image at ZeroLength
-      → StepAnswers image at (record { code = 2; offset = at; header = 0; blocks = 0; signature = 0; next = 0 })
+      → StepRow image at (record { code = 2; offset = at; header = 0; blocks = 0; signature = 0; next = 0 })
   step-three : at < length image → Breaks image at PastEnd
-      → StepAnswers image at (record { code = 3; offset = at; header = 0; blocks = 0; signature = 0; next = 0 })
+      → StepRow image at (record { code = 3; offset = at; header = 0; blocks = 0; signature = 0; next = 0 })
   step-four : at < length image → Breaks image at Checksum
-      → StepAnswers image at (record { code = 4; offset = at; header = 0; blocks = 0; signature = 0; next = 0 })
+      → StepRow image at (record { code = 4; offset = at; header = 0; blocks = 0; signature = 0; next = 0 })
   step-five : at < length image → Breaks image at ZeroChecksum
-      → StepAnswers image at (record { code = 5; offset = at; header = 0; blocks = 0; signature = 0; next = 0 })
+      → StepRow image at (record { code = 5; offset = at; header = 0; blocks = 0; signature = 0; next = 0 })

@@ -9,15 +9,15 @@ use Rattle.errors.specs.declared.Error.the-variants.{NoPartition}
 use Rattle.header.specs.Header.{headerAt, bytesOf}
 use Rattle.partitions.specs.declared.Partition.{Partition}
 use Rattle.partitions.specs.declared.Checked.{Checked}
-use Rattle.partitions.specs.declared.Checked.the-variants.{Accepted, Refused as Rejected}
+use Rattle.partitions.specs.declared.Checked.the-variants as Checked
 use Rattle.partitions.specs.declared.Found.{Found}
 use Rattle.partitions.specs.declared.Found.the-variants.{At, Refused}
 use Rattle.partitions.specs.Walk.{Walk, covered, broken, walk}
 
 -- the image check counts the partitions of the walk
 unfoldable pub checkedBy : Walk → Checked
-checkedBy (covered ps) = Accepted (length ps)
-checkedBy (broken e) = Rejected e
+checkedBy (covered ps) = Checked.Accepted (length ps)
+checkedBy (broken e) = Checked.Refused e
 
 unfoldable pub checkOf : List ℕ → Checked
 checkOf image = checkedBy (walk image)

@@ -1,6 +1,6 @@
 pub mod Walk
 pub mod Find
-pub mod Answers
+pub mod Views
 pub mod Cover
 pub mod Examples
 pub mod Helpers

@@ -4,7 +4,7 @@ ghost use mathlib.Core.Bool.{true};
 ghost use Rattle.partitions.specs.Walk.{allowedLength, stepAt};
 ghost use Rattle.partitions.specs.Find.{checkOf, indexOf};
 ghost use Rattle.partitions.specs.Helpers.{keepFirst};
-ghost use Rattle.partitions.specs.Answers.{noStep, stepAnswer, checkAnswer, findAnswer};
+ghost use Rattle.partitions.specs.Views.{noStep, stepAnswer, checkAnswer, findAnswer};
 use errors::Error;
 use header::Blocks;
 use header::Header;

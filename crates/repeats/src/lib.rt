@@ -271,9 +271,9 @@ fn turn_large(pairs: &[u8], from: usize, best: usize) -> Turned
     turn(pairs, &mut links, &mut starts, from, best)
 }
 
-// One block, with a table that suits the area. The first test never holds; it keeps the tables in frames of their own, since
-// the compiler puts no large frame into a function that calls itself. So an area of up to 64 KiB takes less than 16 KiB of
-// stack, and a larger one less than 64 KiB.
+// One block, with a table that suits the bytes of the pairs. The first test never holds; it keeps the tables in frames of
+// their own, since the compiler puts no large frame into a function that calls itself. So pairs of up to 64 KiB take less
+// than 16 KiB of stack, and longer ones less than 64 KiB.
 fn turn_sized(pairs: &[u8], from: usize, best: usize) -> Turned
     requires { ⌜ Distinct (now pairs) from best × Best (now pairs) best × (from < best) × Start (now pairs) from ⌝ }
     ensures { λ r. ⌜ Turn (now (pairs .entry)) from best (r .mid) (r .best) ⌝ }

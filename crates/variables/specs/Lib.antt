@@ -1,5 +1,5 @@
 pub mod Edits
 pub mod Calls
 pub mod Rules
-pub mod Answers
+pub mod Views
 pub mod Helpers

@@ -26,11 +26,11 @@ pub data SetSize (name value : List ℕ) : List Entry → ℕ → Type 0 where
       → SetSize name value (e ∷ es) (length name + k + 2 + sizes es)
   kept : {e : Entry} {es : List Entry} {n : ℕ} → name ≢ e .name → SetSize name value es n → SetSize name value (e ∷ es) (e .size + n)
 
--- 0x00 from some offset to the end of an area of n bytes
+-- an area of n bytes: what is kept, then 0x00 to its end
 pub data Zeroed (n : ℕ) : List ℕ → List ℕ → Type 0 where
   zeroed : {kept area : List ℕ} (k : ℕ) → area ≡ kept ++ 0x00 ∷ replicate k 0x00 → length area ≡ n → Zeroed n kept area
 
--- the bytes of a pair, and of a canonical one
+-- a pair's bytes: name, `=`, stored value, 0x00
 abbrev pub pairBy : List ℕ → List ℕ → List ℕ
 pairBy name stored = name ++ 0x3D ∷ (stored ++ 0x00 ∷ [])
 

@@ -6,9 +6,9 @@ use pairs::Scanned;
 use values::Written;
 ghost use mathlib.Core.Path.{_≡_};
 ghost use Rattle.variables.specs.Helpers.{namedScan, Sought, pairRead};
-ghost use Rattle.variables.specs.Answers.{countReply, readReply};
+ghost use Rattle.variables.specs.Views.{countReply, readReply};
 ghost use Rattle.variables.specs.Calls as Calls;
-ghost use Rattle.variables.specs.Answers.{doneAnswer, refusedAnswer, countedAnswer, fetchedAnswer, editedAnswer};
+ghost use Rattle.variables.specs.Views.{doneAnswer, refusedAnswer, countedAnswer, fetchedAnswer, editedAnswer};
 
 // The caller's view of an answer to a call on variables: code 0 and the length or count, or the error's code and offset.
 pub struct CallAnswer {

@@ -1,6 +1,6 @@
 -- `nvram_check` meets its contract: each output is the field of the answer.
 use mathlib.Core.Path.{ap, _∙_}
-use Rattle.partitions.specs.Answers.{checkAnswer}
+use Rattle.partitions.specs.Views.{checkAnswer}
 use borrow.Author.Needs.{needs}
 use Rattle.nvram_c.proofs.nvram_check.Statement.{statement}
 use Rattle.nvram_c.proofs.nvram_check.Tie as tie

@@ -1,6 +1,6 @@
 -- `nvram_find` meets its contract: each output is the field of the answer.
 use mathlib.Core.Path.{ap, _∙_}
-use Rattle.partitions.specs.Answers.{findAnswer}
+use Rattle.partitions.specs.Views.{findAnswer}
 use borrow.Author.Needs.{needs}
 use Rattle.nvram_c.proofs.nvram_find.Statement.{statement}
 use Rattle.nvram_c.proofs.nvram_find.Tie as tie

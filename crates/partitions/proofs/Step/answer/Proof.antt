@@ -1,7 +1,7 @@
 -- `Step::answer` meets its contract, case by case.
 use mathlib.Core.Path.{_∙_}
 use borrow.Author.Needs.{needs}
-use Rattle.partitions.specs.Answers.{noStep}
+use Rattle.partitions.specs.Views.{noStep}
 use Rattle.partitions.proofs.Step.answer.Statement.{statement}
 use Rattle.partitions.proofs.Step.answer.Tie as tie
 

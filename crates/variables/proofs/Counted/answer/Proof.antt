@@ -1,6 +1,6 @@
 -- `Counted::answer` meets its contract, case by case.
 use mathlib.Core.Path.{sym, ap, _∙_}
-use Rattle.variables.specs.Answers.{countedAnswer}
+use Rattle.variables.specs.Views.{countedAnswer}
 use borrow.Author.Needs.{needs}
 use Rattle.variables.proofs.Counted.answer.Statement.{statement}
 use Rattle.variables.proofs.Counted.answer.Tie as tie

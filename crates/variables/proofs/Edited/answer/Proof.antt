@@ -1,6 +1,6 @@
 -- `Edited::answer` meets its contract, case by case.
 use mathlib.Core.Path.{sym, ap, _∙_}
-use Rattle.variables.specs.Answers.{editedAnswer}
+use Rattle.variables.specs.Views.{editedAnswer}
 use borrow.Author.Needs.{needs}
 use Rattle.variables.proofs.Edited.answer.Statement.{statement}
 use Rattle.variables.proofs.Edited.answer.Tie as tie

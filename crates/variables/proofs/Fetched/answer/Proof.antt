@@ -1,6 +1,6 @@
 -- `Fetched::answer` meets its contract, case by case.
 use mathlib.Core.Path.{sym, ap, _∙_}
-use Rattle.variables.specs.Answers.{fetchedAnswer}
+use Rattle.variables.specs.Views.{fetchedAnswer}
 use borrow.Author.Needs.{needs}
 use Rattle.variables.proofs.Fetched.answer.Statement.{statement}
 use Rattle.variables.proofs.Fetched.answer.Tie as tie

@@ -3,7 +3,7 @@ use Prim.Native.Nat.{ℕ}
 use Rattle.errors.specs.Errors.{codeOf, offsetOf}
 use Rattle.partitions.specs.declared.CheckAnswer.{CheckAnswer}
 use Rattle.partitions.specs.declared.Checked.{Checked}
-use Rattle.partitions.specs.declared.Checked.the-variants.{Accepted, Refused as Rejected}
+use Rattle.partitions.specs.declared.Checked.the-variants as Checked
 use Rattle.partitions.specs.declared.FindAnswer.{FindAnswer}
 use Rattle.partitions.specs.declared.StepAnswer.{StepAnswer}
 use Rattle.partitions.specs.declared.Step.{Step}
@@ -24,8 +24,8 @@ stepAnswer (Broken e) = noStep (codeOf e) (offsetOf e)
 
 -- the image check: the number of partitions
 abbrev pub checkAnswer : Checked → CheckAnswer
-checkAnswer (Accepted n) = record { code = 0; offset = 0; partitions = n }
-checkAnswer (Rejected e) = record { code = codeOf e; offset = offsetOf e; partitions = 0 }
+checkAnswer (Checked.Accepted n) = record { code = 0; offset = 0; partitions = n }
+checkAnswer (Checked.Refused e) = record { code = codeOf e; offset = offsetOf e; partitions = 0 }
 
 -- a partition by its index or by its signature and name
 abbrev pub findAnswer : Found → FindAnswer
