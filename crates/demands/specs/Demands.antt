@@ -26,11 +26,13 @@ ActionBytes (setTo value) = AllBytes value
 ActionBytes removal = Unit {0}
 ActionBytes (readInto buffer) = Unit {0}
 
+-- of a call
 abbrev pub CallBytes : Call → Type 0
 CallBytes (named name action) = ActionBytes action
 CallBytes normalize = Unit {0}
 CallBytes count = Unit {0}
 
+-- of a request
 abbrev pub RequestBytes : Request → Type 0
 RequestBytes (variable call) = CallBytes call
 RequestBytes check = Unit {0}
@@ -38,6 +40,7 @@ RequestBytes (partition n) = Unit {0}
 RequestBytes (find signature name) = Unit {0}
 RequestBytes (area signature name) = Unit {0}
 
+-- of each of some calls
 abbrev pub CallsBytes : List Call → Type 0
 CallsBytes [] = Unit {0}
 CallsBytes (call ∷ calls) = CallBytes call × CallsBytes calls

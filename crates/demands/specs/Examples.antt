@@ -45,6 +45,7 @@ seven =
 abbrev nine : List ℕ
 nine = holding (0x61 ∷ 0x3D ∷ 0xFF ∷ 0x01 ∷ 0xFF ∷ 0x01 ∷ 0x00 ∷ 0x00 ∷ replicate 8 0xAA)
 
+-- each example by its number; those that are marked P and two more of what 6 leaves
 pub record Examples : Type 0 where
   pub one-2 : sumcheck (commonCovered 2) ≡ 0xFD
   pub one-3 : sumcheck (commonCovered 3) ≡ 0xFE
@@ -79,6 +80,7 @@ pub record Examples : Type 0 where
   pub ten-9 : callImage count (holding (0x61 ∷ 0x3D ∷ 0xFF ∷ 0x80 ∷ replicate 12 0xAA)) .told ≡ told 9 19 0
   pub eleven : callImage count (holding (0x61 ∷ 0x3D ∷ replicate 13 0x78 ++ 0x00 ∷ [])) .told ≡ told 7 32 0
 
+-- they hold, by computing
 pub examples : Examples
 unfolding callImage commonOf callArea callPairs setIn callCheck nameCheck nameCheckFrom nameByte parse parseFrom standAt
     storedName scanName scanValue stands sameBytes areaBytes setPair normalizePairs lookup pairsBytes pairBytes encode encodeFrom
@@ -125,6 +127,7 @@ pub record Limits : Type 0 where
   pub stored-name : standAt (replicate 31 0x61 ++ 0x3D ∷ 0x00 ∷ []) ≡ pair (replicate 31 0x61) [] []
   pub stored-name-over : standAt (replicate 32 0x61 ++ 0x3D ∷ 0x00 ∷ []) ≡ wrongName 31
 
+-- they hold, by computing
 pub limits : Limits
 unfolding allowedLength newHeader nameCheck nameCheckFrom nameByte standAt storedName scanName scanValue
 limits = record {

@@ -82,6 +82,7 @@ pub record Results : Type 0 where
   pub told : List Told
   pub image : List ℕ
 
+-- what they tell, in their order, and the image after the last
 unfoldable pub runImage : List Call → List ℕ → Results
 runImage [] image = record { told = []; image = image }
 runImage (call ∷ calls) image =

@@ -52,6 +52,7 @@ pub data Value : Type 0 where
   some : List ℕ → Value
   none : Value
 
+-- the first entry of that name has it
 unfoldable pub valueOf : List ℕ → List Entry → Value
 valueOf name [] = none
 valueOf name (e ∷ es) = elim (same name (e .name)) [ true ↦ some (e .value) | false ↦ valueOf name es ]
@@ -73,6 +74,7 @@ denies code offset buffer = record { code = code; offset = offset; amount = 0; b
 abbrev pub keeps : Told → Model → ModelResult
 keeps t m = record { told = t; model = m }
 
+-- done: the model gets these entries
 abbrev pub becomes : List Entry → Model → ModelResult
 becomes es m = record { told = says 0 []; model = record { room = m .room; entries = es } }
 
@@ -109,6 +111,7 @@ pub record ModelResults : Type 0 where
   pub told : List Told
   pub model : Model
 
+-- what the calls tell, in their order, and the model after the last
 unfoldable pub runModel : List Call → Model → ModelResults
 runModel [] m = record { told = []; model = m }
 runModel (call ∷ calls) m =
@@ -121,5 +124,6 @@ unfoldable pub canonicalBytes : List Entry → List ℕ
 canonicalBytes [] = []
 canonicalBytes (e ∷ es) = e .name ++ 0x3D ∷ (encode (e .value) ++ 0x00 ∷ canonicalBytes es)
 
+-- those bytes, the ending 0x00, and 0x00 to the length
 unfoldable pub canonicalArea : ℕ → List Entry → List ℕ
 canonicalArea room es = canonicalBytes es ++ 0x00 ∷ replicate (room - (length (canonicalBytes es) + 1)) 0x00

@@ -26,6 +26,7 @@ unfoldable pub replaceReply : List ℕ → ℕ → ℕ → ℕ → List ℕ → 
 replaceReply area start rest used new =
     cond (ltb (length area) (start + length new + (used - rest) + 1)) (refused NoRoom) (done 0)
 
+-- the area afterwards
 unfoldable pub replaceArea : List ℕ → ℕ → ℕ → ℕ → List ℕ → List ℕ
 replaceArea area start rest used new =
     cond (ltb (length area) (start + length new + (used - rest) + 1)) area

@@ -58,6 +58,7 @@ textOddNames =
     ∷ 0x33 ∷ 0x32 ∷ 0x20 ∷ 0x31 ∷ 0x20 ∷ 0x30 ∷ 0x46 ∷ 0x20 ∷ 0x21 ∷ 0x41 ∷ 0x5A ∷ 0x61 ∷ 0x7A ∷ 0x30 ∷ 0x39 ∷ 0x2F ∷ 0x40 ∷ 0x5B ∷ 0x7D ∷ 0x7E ∷ 0x0A
     ∷ 0x33 ∷ 0x20 ∷ 0x62 ∷ 0x6C ∷ 0x6F ∷ 0x63 ∷ 0x6B ∷ 0x73 ∷ 0x0A ∷ []
 
+-- texts and fields in literal bytes
 pub record Examples : Type 0 where
   pub whole : listingText E ≡ textE
   pub no-checksum : listingText (0x70 ∷ 0x00 ∷ drop 2 E) ≡ refused4
@@ -73,6 +74,7 @@ pub record Examples : Type 0 where
   pub room : seenListing [] (replicate 16 0xAA) ≡ record { code = 0; amount = 15; buffer = refused1 ++ 0xAA ∷ [] }
   pub no-room : seenListing [] (replicate 14 0xAA) ≡ record { code = 14; amount = 0; buffer = replicate 14 0xAA }
 
+-- they hold, by computing
 pub examples : Examples
 unfolding listingText textBy lines line blocksSum decimal decimalFrom hexByte hexDigit visible shownName listedOf
     walk walkFrom stepAt allowedLength partitionOf pastOf validityAt validityOf headerAt nameAt sumFrom writtenIn pasted

@@ -21,6 +21,7 @@ unfoldable pub measuredBy : List ℕ → Walk → Measured
 measuredBy image (covered ps) = Lines (length (lines image ps)) (blocksSum ps)
 measuredBy image (broken e) = Broken e
 
+-- of an image's walk
 unfoldable pub measuredOf : List ℕ → Measured
 measuredOf image = measuredBy image (walk image)
 
@@ -29,6 +30,7 @@ unfoldable pub linesBy : List ℕ → Walk → List ℕ
 linesBy image (covered ps) = lines image ps
 linesBy image (broken e) = []
 
+-- of an image's walk
 unfoldable pub linesOf : List ℕ → List ℕ
 linesOf image = linesBy image (walk image)
 

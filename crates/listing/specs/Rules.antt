@@ -22,6 +22,7 @@ unfoldable pub numberFrom : ℕ → List ℕ → ℕ
 numberFrom n [] = n
 numberFrom n (d ∷ ds) = numberFrom (n * 10 + (d - 0x30)) ds
 
+-- the number that digits spell
 unfoldable pub number : List ℕ → ℕ
 number ds = numberFrom 0 ds
 

@@ -16,6 +16,7 @@ decimalFrom zero n = (48 + n % 10) ∷ []
 decimalFrom (suc f) n =
     elim (ltb n 10) [ true ↦ (48 + n) ∷ [] | false ↦ decimalFrom f (n / 10) ++ (48 + n % 10) ∷ [] ]
 
+-- the number itself is bound enough
 unfoldable pub decimal : ℕ → List ℕ
 decimal n = decimalFrom n n
 
@@ -42,6 +43,7 @@ line image p =
     decimal (p .offset) ++ 0x20 ∷ decimal (p .blocks .0) ++ 0x20 ∷ hexByte (p .signature) ++ 0x20
     ∷ shownName (nameAt image (p .offset)) ++ 0x0A ∷ []
 
+-- a line for each partition
 unfoldable pub lines : List ℕ → List Partition → List ℕ
 lines image [] = []
 lines image (p ∷ ps) = line image p ++ lines image ps

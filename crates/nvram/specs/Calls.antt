@@ -32,9 +32,11 @@ withBuffer a buffer = record { code = a .code; offset = a .offset; amount = a .a
 abbrev pub countTold : Counted → Told
 countTold r = withBuffer (countedAnswer r) []
 
+-- a read
 abbrev pub readTold : Fetched → List ℕ → Told
 readTold r buffer = withBuffer (fetchedAnswer r) buffer
 
+-- a set, a removal or a normalizing
 abbrev pub editTold : Edited → Told
 editTold r = withBuffer (editedAnswer r) []
 

@@ -13,6 +13,7 @@ pub record Pair : Type 0 where
   pub name : List ℕ
   pub stored : List ℕ
 
+-- a pair of this name and stored value
 abbrev pub pairOf : List ℕ → List ℕ → Pair
 pairOf name stored = record { name = name; stored = stored }
 
@@ -20,6 +21,7 @@ pairOf name stored = record { name = name; stored = stored }
 unfoldable pub pairBytes : Pair → List ℕ
 pairBytes p = p .name ++ 0x3D ∷ (p .stored ++ 0x00 ∷ [])
 
+-- pairs one after the other
 unfoldable pub pairsBytes : List Pair → List ℕ
 pairsBytes [] = []
 pairsBytes (p ∷ ps) = pairBytes p ++ pairsBytes ps
@@ -29,6 +31,7 @@ pub data Parse : Type 0 where
   parsed : List Pair → Parse
   faulty : AreaFault → ℕ → Parse
 
+-- a pair put before what a parse finds
 abbrev pub firstPair : Pair → Parse → Parse
 firstPair p (parsed ps) = parsed (p ∷ ps)
 firstPair p (faulty f at) = faulty f at

@@ -21,7 +21,7 @@ use Rattle.pairs.specs.declared.Place.the-variants as Place
 use Rattle.pairs.specs.Scan.{Scan, ends, bad, short, and, Stand, pair, finish, cut, wrongName, wrongEscape, standAt}
 use Rattle.pairs.specs.Area.{Parse, parsed, faulty, pairsBytes}
 
--- a scan of a stored name byte by byte; k bytes have been read: an `=` ends it, but not at once; any other byte is allowed and at most the 31st
+-- a scan of a stored name byte by byte after k bytes: an `=` ends it, but not at once, and any other byte is allowed and at most the 31st
 unfoldable pub scanNameFrom : ℕ → List ℕ → Scan
 scanNameFrom k [] = short
 scanNameFrom k (b ∷ bs) =

@@ -6,7 +6,7 @@ use lib.ListN.{length, take, drop}
 use lib.Dec.{eqb}
 use Rattle.names.specs.Name.{nameCheck, onCheck}
 
--- its bytes and what follows the byte that ends it; or the first byte that breaks the rule, so many bytes further on; or the area ends first
+-- what a scan finds: its bytes and what follows the byte that ends it, or how far on the first byte is that breaks the rule, or that the area ends first
 pub data Scan : Type 0 where
   ends : List ℕ → List ℕ → Scan
   bad : ℕ → Scan
@@ -38,7 +38,7 @@ scanValue after k [] = short
 scanValue true k (c ∷ bs) = elim (eqb c 0x00 || eqb c 0x80) [ true ↦ bad k | false ↦ and c (scanValue false (k + 1) bs) ]
 scanValue false k (b ∷ bs) = elim (eqb b 0x00) [ true ↦ ends [] bs | false ↦ and b (scanValue (eqb b 0xFF) (k + 1) bs) ]
 
--- a pair: its name, its stored value and what follows its 0x00; the 0x00 that ends the pairs; or code 7, or 8 or 9 so many bytes further on
+-- what stands there: a pair (name, stored value, what follows its 0x00), the 0x00 that ends the pairs, or the fault 7, or 8 or 9 so many bytes further on
 pub data Stand : Type 0 where
   pair : List ℕ → List ℕ → List ℕ → Stand
   finish : Stand
@@ -46,11 +46,13 @@ pub data Stand : Type 0 where
   wrongName : ℕ → Stand
   wrongEscape : ℕ → Stand
 
+-- what stands there, by the scan of the value after a good name
 abbrev pub onValue : List ℕ → Scan → Stand
 onValue name (ends stored rest) = pair name stored rest
 onValue name (bad k) = wrongEscape (length name + 1 + k)
 onValue name short = cut
 
+-- what stands there, by the scan of the name
 abbrev pub onName : Scan → Stand
 onName (ends name after) = onValue name (scanValue false 0 after)
 onName (bad k) = wrongName k

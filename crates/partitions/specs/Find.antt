@@ -19,6 +19,7 @@ unfoldable pub checkedBy : Walk → Checked
 checkedBy (covered ps) = Checked.Accepted (length ps)
 checkedBy (broken e) = Checked.Refused e
 
+-- the check of an image
 unfoldable pub checkOf : List ℕ → Checked
 checkOf image = checkedBy (walk image)
 
@@ -28,10 +29,12 @@ atIndex n [] = Refused NoPartition
 atIndex zero (p ∷ ps) = At p
 atIndex (suc n) (p ∷ ps) = atIndex n ps
 
+-- the same of what a walk finds
 unfoldable pub indexBy : ℕ → Walk → Found
 indexBy n (covered ps) = atIndex n ps
 indexBy n (broken e) = Refused e
 
+-- the partition of an index of an image
 unfoldable pub indexOf : List ℕ → ℕ → Found
 indexOf image n = indexBy n (walk image)
 
@@ -54,10 +57,12 @@ firstMatch image signature name [] = Refused NoPartition
 firstMatch image signature name (p ∷ ps) =
     cond (matches image signature name (p .offset)) (At p) (firstMatch image signature name ps)
 
+-- the same of what a walk finds
 unfoldable pub findBy : List ℕ → ℕ → List ℕ → Walk → Found
 findBy image signature name (covered ps) = firstMatch image signature name ps
 findBy image signature name (broken e) = Refused e
 
+-- the partition of a signature and a name in an image
 unfoldable pub findOf : List ℕ → ℕ → List ℕ → Found
 findOf image signature name = findBy image signature name (walk image)
 

@@ -27,6 +27,7 @@ partitionOf image at =
 unfoldable pub pastOf : List ℕ → ℕ → ℕ
 pastOf image at = at + bytesOf (headerAt image at .length) .0
 
+-- what a step finds inside the image, by the validity of the header there
 abbrev pub stepBy : List ℕ → ℕ → Validity → Step
 stepBy image at Valid = Next (partitionOf image at) (record { at = pastOf image at })
 stepBy image at (Invalid e) = Broken e
@@ -40,10 +41,12 @@ pub data Walk : Type 0 where
   covered : List Partition → Walk
   broken : Error → Walk
 
+-- a partition put before what a walk finds
 abbrev pub first : Partition → Walk → Walk
 first p (covered ps) = covered (p ∷ ps)
 first p (broken e) = broken e
 
+-- what a walk finds, by its first step; go: the walk from the next offset
 abbrev pub onStep : Step → (ℕ → Walk) → Walk
 onStep (Next p c) go = first p (go (c .at))
 onStep End go = covered []

@@ -25,12 +25,15 @@ pub data Call : Type 0 where
   normalize : Call
   count : Call
 
+-- a set of a name to a value
 abbrev pub set : List ℕ → List ℕ → Call
 set name value = named name (setTo value)
 
+-- a removal of a name
 abbrev pub remove : List ℕ → Call
 remove name = named name removal
 
+-- a read of a name into a buffer
 abbrev pub read : List ℕ → List ℕ → Call
 read name buffer = named name (readInto buffer)
 
@@ -40,6 +43,7 @@ lentBy (setTo value) = []
 lentBy removal = []
 lentBy (readInto buffer) = buffer
 
+-- the same of a call
 abbrev pub lent : Call → List ℕ
 lent (named name action) = lentBy action
 lent normalize = []
@@ -66,6 +70,7 @@ pub record Outcome : Type 0 where
 abbrev pub refuse : Error → Call → List ℕ → Outcome
 refuse e call area = record { reply = refused e; buffer = lent call; area = area }
 
+-- an edit that is done leaves this area
 abbrev pub edited : List ℕ → Outcome
 edited area = record { reply = done 0; buffer = []; area = area }
 
@@ -95,6 +100,7 @@ callPairs (named name (readInto buffer)) ps area = readBy (lookup name ps) name 
 callPairs normalize ps area = edited (areaBytes (length area) (normalizePairs ps))
 callPairs count ps area = record { reply = done (length ps); buffer = []; area = area }
 
+-- what a call does to an area, by its parse
 abbrev pub callBy : Parse → Call → List ℕ → Outcome
 callBy (parsed ps) call area = callPairs call ps area
 callBy (faulty f at) call area = refuse (BadArea f at) call area

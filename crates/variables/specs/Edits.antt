@@ -36,6 +36,7 @@ pub data Lookup : Type 0 where
   found : List ℕ → Lookup
   missing : Lookup
 
+-- the value of the first pair of that name
 unfoldable pub lookup : List ℕ → List Pair → Lookup
 lookup name [] = missing
 lookup name (p ∷ ps) = elim (sameBytes name (p .name)) [ true ↦ found (decode (p .stored)) | false ↦ lookup name ps ]

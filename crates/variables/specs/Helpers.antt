@@ -30,7 +30,7 @@ unfoldable pub valueAt : List ℕ → Place → Lookup
 valueAt area (Place.At start equals end) = found (decode (part area (equals + 1) end))
 valueAt area Place.None = missing
 
--- a read of the pair at a place of an area without a fault; no refusal tells the name
+-- a read of the pair at a place of an area without a fault (the name, which no reply holds, is left empty)
 unfoldable pub pairRead : Place → List ℕ → List ℕ → Outcome
 pairRead place buffer area = readBy (valueAt area place) [] buffer area
 
