@@ -27,7 +27,7 @@ shift-tail-requires c κs =
     let a = s .args in
     let q = sym (g .1) ∙ s .pre .1 in
     let b = found-bounds (now (a .area)) (a .used) (s .pre .0) (now (a .name)) (g .0 .0) (g .0 .1 .0) (g .0 .1 .1 .0) q in
-    (b .1, omega arith, omega arith)
+    omega (arith, b)
 
 enum-told : tie.Need-enum-told
 enum-told c = search needs

@@ -2,6 +2,7 @@
 use mathlib.Core.Path.{_∙_}
 use denote.Ref.{now}
 use Rattle.lists.proofs.MoveLaws.{moved-long, moved-from, moved-to, moved-inside}
+use native.Mathlib.Omega.{arith}
 use borrow.Author.Needs.{needs}
 use Rattle.lists.proofs.move_bytes.Statement.{statement}
 use Rattle.lists.proofs.move_bytes.Tie as tie
@@ -19,7 +20,7 @@ returns-2 c =
 returns-3 : tie.Need-returns-3
 returns-3 c =
     let a = c .before .before .before .before .args in
-    moved-to (now (a .s)) (a .from) (a .to) (a .n) (c .before .before .if1 .left) (c .before .if2 .left) (c .if3 .taken)
+    moved-to (now (a .s)) (a .from) (a .to) (a .n) (omega arith) (omega arith) (omega arith)
 
 move-down-requires : tie.Need-move-down-requires
 move-down-requires c κs = search needs

@@ -16,7 +16,7 @@ inside b =
     let g = b .before .before .found .given in
     let f = b .before .before .before .before in
     let a = f .before .before .before .args in
-    found-part (now (a .image)) (a .signature) (now (a .name)) (f .find .result) (f .find .ensures) (g .0 .0) (g .1) (b .bytes .result) (b .bytes .ensures)
+    found-part (now (a .image)) _ _ (f .find .result) (f .find .ensures) (g .0 .0) (g .1) (b .bytes .result) (b .bytes .ensures)
 
 find-requires : tie.Need-find-requires
 find-requires c κs = search needs

@@ -18,7 +18,7 @@ abbrev μ-loop : tie.MeasureT-loop
 returns : tie.Need-returns Inv-loop μ-loop
 returns c =
     let a = c .before .before .before .args in
-    too-long (now (a .stored)) (now (a .name)) (c .if1 .taken)
+    too-long (now (a .stored)) (now (a .name)) (omega arith)
 
 loop-holds : tie.Need-loop-holds Inv-loop μ-loop
 loop-holds c = let a = c .before .before .before .args in (refl, omega arith, agree-none (now (a .stored)) (now (a .name)))
