@@ -20,19 +20,19 @@ use Rattle.demands.specs.Table.{Answers}
 use Rattle.demands.specs.Model.{runModel, canonicalArea}
 use Rattle.demands.specs.Library.{seen, runImage}
 
--- what a caller gives is bytes
+-- the value that a caller gives is bytes
 abbrev pub ActionBytes : Action → Type 0
 ActionBytes (setTo value) = AllBytes value
 ActionBytes removal = Unit {0}
 ActionBytes (readInto buffer) = Unit {0}
 
--- of a call
+-- what a call is given is bytes
 abbrev pub CallBytes : Call → Type 0
 CallBytes (named name action) = ActionBytes action
 CallBytes normalize = Unit {0}
 CallBytes count = Unit {0}
 
--- of a request
+-- what a request is given is bytes
 abbrev pub RequestBytes : Request → Type 0
 RequestBytes (variable call) = CallBytes call
 RequestBytes check = Unit {0}
@@ -40,7 +40,7 @@ RequestBytes (partition n) = Unit {0}
 RequestBytes (find signature name) = Unit {0}
 RequestBytes (area signature name) = Unit {0}
 
--- of each of some calls
+-- what each of some calls is given is bytes
 abbrev pub CallsBytes : List Call → Type 0
 CallsBytes [] = Unit {0}
 CallsBytes (call ∷ calls) = CallBytes call × CallsBytes calls

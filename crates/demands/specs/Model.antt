@@ -47,12 +47,12 @@ unfoldable pub newSizes : List Entry → List Entry
 newSizes [] = []
 newSizes (e ∷ es) = newEntry (e .name) (e .value) ∷ newSizes es
 
--- the value of the entry of that name
+-- a value, or none
 pub data Value : Type 0 where
   some : List ℕ → Value
   none : Value
 
--- the first entry of that name has it
+-- the value of the first entry of that name, if one has it
 unfoldable pub valueOf : List ℕ → List Entry → Value
 valueOf name [] = none
 valueOf name (e ∷ es) = elim (same name (e .name)) [ true ↦ some (e .value) | false ↦ valueOf name es ]

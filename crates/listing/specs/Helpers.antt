@@ -21,16 +21,16 @@ unfoldable pub measuredBy : List ℕ → Walk → Measured
 measuredBy image (covered ps) = Lines (length (lines image ps)) (blocksSum ps)
 measuredBy image (broken e) = Broken e
 
--- of an image's walk
+-- the same, by the walk of an image
 unfoldable pub measuredOf : List ℕ → Measured
 measuredOf image = measuredBy image (walk image)
 
--- the lines of an accepted image
+-- the lines of the partitions that a walk finds, none where it breaks
 unfoldable pub linesBy : List ℕ → Walk → List ℕ
 linesBy image (covered ps) = lines image ps
 linesBy image (broken e) = []
 
--- of an image's walk
+-- the lines of an image, by its walk
 unfoldable pub linesOf : List ℕ → List ℕ
 linesOf image = linesBy image (walk image)
 

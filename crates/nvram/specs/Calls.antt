@@ -28,15 +28,15 @@ pub record Told : Type 0 where
 abbrev pub withBuffer : CallAnswer → List ℕ → Told
 withBuffer a buffer = record { code = a .code; offset = a .offset; amount = a .amount; buffer = buffer }
 
--- each answer of the code, with the buffer where a call lends one
+-- what a count tells
 abbrev pub countTold : Counted → Told
 countTold r = withBuffer (countedAnswer r) []
 
--- a read
+-- what a read tells
 abbrev pub readTold : Fetched → List ℕ → Told
 readTold r buffer = withBuffer (fetchedAnswer r) buffer
 
--- a set, a removal or a normalizing
+-- what a set, a removal or a normalizing tells
 abbrev pub editTold : Edited → Told
 editTold r = withBuffer (editedAnswer r) []
 

@@ -29,7 +29,7 @@ atIndex n [] = Refused NoPartition
 atIndex zero (p ∷ ps) = At p
 atIndex (suc n) (p ∷ ps) = atIndex n ps
 
--- the same of what a walk finds
+-- the partition of an index among those that a walk finds
 unfoldable pub indexBy : ℕ → Walk → Found
 indexBy n (covered ps) = atIndex n ps
 indexBy n (broken e) = Refused e
@@ -57,7 +57,7 @@ firstMatch image signature name [] = Refused NoPartition
 firstMatch image signature name (p ∷ ps) =
     cond (matches image signature name (p .offset)) (At p) (firstMatch image signature name ps)
 
--- the same of what a walk finds
+-- the first match among the partitions that a walk finds
 unfoldable pub findBy : List ℕ → ℕ → List ℕ → Walk → Found
 findBy image signature name (covered ps) = firstMatch image signature name ps
 findBy image signature name (broken e) = Refused e

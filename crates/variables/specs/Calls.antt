@@ -37,13 +37,13 @@ remove name = named name removal
 abbrev pub read : List ℕ → List ℕ → Call
 read name buffer = named name (readInto buffer)
 
--- the buffer that a call lends
+-- the buffer that is lent for an action
 abbrev pub lentBy : Action → List ℕ
 lentBy (setTo value) = []
 lentBy removal = []
 lentBy (readInto buffer) = buffer
 
--- the same of a call
+-- the buffer that a call lends
 abbrev pub lent : Call → List ℕ
 lent (named name action) = lentBy action
 lent normalize = []
