@@ -1,15 +1,17 @@
--- The closed form of the checksum, for all bytes.
-use Prim.Native.Nat.{ℕ, zero, suc, _+_, _-_, _/_, _%_, _≤_, _<_}
+-- The checksum for all bytes: its closed form, and two folds of the plain sum.
+use Prim.Native.Nat.{ℕ, zero, suc, _+_, _-_, _*_, _/_, _%_, _≤_, _<_}
 use mathlib.Core.Path.{_≡_, ap, refl, sym, _∙_}
 use mathlib.Core.List.{List, [], _∷_}
 use mathlib.Core.Logic.{_↔_}
 use native.Mathlib.Omega.{arith}
 use native.Mathlib.Decide.{decLe}
+use lib.ListN.{length, replicate}
 use borrow.Author.Tests.{le-leb, lt-leb}
 use Rattle.lists.specs.Bytes.{Every, AllBytes}
+use Rattle.lists.proofs.ListLaws.{every-replicate}
 use Rattle.header.specs.declared.Header.{Header}
 use Rattle.header.specs.Header.{coveredBytes}
-use Rattle.header.specs.Checksum.{addCarry, sumFrom, sumcheck, sum, closedForm}
+use Rattle.header.specs.Checksum.{addCarry, sumFrom, sumcheck, sum, closedForm, fold}
 
 -- one byte more, by whether a carry leaves the byte
 carry : (c b : ℕ) (d : Dec (256 ≤ c + b)) (n : ℕ) → (256 ≤ c + b → c + b - 255 ≡ n) → (c + b < 256 → c + b ≡ n) → addCarry c b ≡ n
@@ -61,14 +63,40 @@ zero-exactly bs a = (
   λ z. closed-form bs a ∙ ap closedForm (sum-of-zeros bs z),
 )
 
-pub closed-zero : (s : ℕ) → s ≡ 0 → 0 ≡ closedForm s
-unfolding closedForm
-closed-zero s z = sym (ap closedForm z)
+-- a number with no carry is left as it is: where the first fold leaves none, the second changes nothing
+pub fold-none : (s : ℕ) → s < 256 → fold s ≡ s
+fold-none s h = omega arith
 
-pub closed-positive : (s : ℕ) → (s ≡ 0 → ⊥) → (s - 1) % 255 + 1 ≡ closedForm s
+-- two folds of a number of 16 bits leave no carry
+pub folds-byte : (s : ℕ) → s < 65536 → fold (fold s) < 256
+folds-byte s h = omega arith
+
+-- and are the closed form
+pub folds-closed : (s : ℕ) → s < 65536 → fold (fold s) ≡ closedForm s
 unfolding closedForm
-closed-positive zero z = absurd (z refl)
-closed-positive (suc m) z = omega arith
+folds-closed zero h = refl
+folds-closed (suc m) h = omega arith
+
+sum-bound : (bs : List ℕ) → AllBytes bs → sum bs ≤ 255 * length bs
+unfolding sum
+sum-bound [] a = omega arith
+sum-bound (b ∷ bs) a = omega (arith, a .0, sum-bound bs (a .1))
+
+-- TWO FOLDS of the plain sum of any fifteen bytes leave no carry, and are their checksum
+pub two-folds : (bs : List ℕ) → AllBytes bs → length bs ≡ 15 → (fold (fold (sum bs)) < 256) × (fold (fold (sum bs)) ≡ sumcheck bs)
+two-folds bs a n =
+    let l : sum bs < 65536 = omega (arith, sum-bound bs a) in
+    (folds-byte (sum bs) l, folds-closed (sum bs) l ∙ sym (closed-form bs a))
+
+-- fifteen bytes with the plain sum 511
+abbrev pub twiceCarried : List ℕ
+twiceCarried = 0xFF ∷ 0xFF ∷ 0x01 ∷ replicate 12 0x00
+
+-- ONE FOLD IS NOT ENOUGH for them: it leaves a carry, and the checksum is 1
+pub one-fold-carries : AllBytes twiceCarried × (length twiceCarried ≡ 15) × (fold (sum twiceCarried) ≡ 256) × (sumcheck twiceCarried ≡ 1)
+unfolding sum sumFrom
+one-fold-carries =
+    ((omega arith, (omega arith, (omega arith, every-replicate (λ b. b < 256) 12 0x00 (omega arith)))), refl, refl, refl)
 
 -- the closed form of the plain sum of a header's fields
 pub sum-covered : (h : Header) → h .signature < 256 → AllBytes (h .name) → (n s r : ℕ) → n ≡ sum (h .name) → s ≡ h .signature

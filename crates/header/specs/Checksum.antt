@@ -1,5 +1,5 @@
--- The checksum of a header, as the chapter adds it, and its closed form.
-use Prim.Native.Nat.{ℕ, zero, suc, _+_, _-_, _%_}
+-- The checksum of a header, as the chapter adds it, its closed form, and the fold by which the code takes it.
+use Prim.Native.Nat.{ℕ, zero, suc, _+_, _-_, _/_, _%_}
 use mathlib.Core.Bool.{cond}
 use mathlib.Core.List.{List, [], _∷_}
 use lib.Dec.{leb}
@@ -26,3 +26,7 @@ sum (b ∷ bs) = b + sum bs
 unfoldable pub closedForm : ℕ → ℕ
 closedForm zero = 0
 closedForm (suc s) = s % 255 + 1
+
+-- a fold: what stands above the low byte, the carries, is taken off and added to that byte
+abbrev pub fold : ℕ → ℕ
+fold s = s % 256 + s / 256

@@ -2,10 +2,10 @@
 use errors::Error;
 use errors::HeaderFault;
 ghost use mathlib.Core.Path.{_≡_};
-ghost use Prim.Native.Nat.{_+_, _/_, _%_, _≤_};
+ghost use Prim.Native.Nat.{_+_, _/_, _%_, _≤_, _<_};
 ghost use lib.ListN.{length as len};
 ghost use Rattle.lists.specs.Bytes.{AllBytes};
-ghost use Rattle.header.specs.Checksum.{sum, sumcheck, closedForm};
+ghost use Rattle.header.specs.Checksum.{sum, sumcheck, closedForm, fold};
 ghost use Rattle.header.specs.Header.{bytesOf, byteAt, nameAt, headerAt, coveredBytes, newHeader, firstBroken, validityOf, validityAt, validityAnswer};
 
 // A length in blocks, as a header holds it.
@@ -295,15 +295,21 @@ fn sum_name(name: &[u8; 12]) -> u32
     sum_bytes(name)
 }
 
-// The checksum of bytes that have this plain sum.
+// The low byte of a sum, with what stands above it, the carries, added to it.
+fn fold(sum: u32) -> u32
+    ensures { λ r. ⌜ r ≡ fold sum ⌝ }
+{
+    sum % 256 + sum / 256
+}
+
+// The checksum of bytes that have this plain sum: the first fold may leave a carry, the second leaves none.
 fn folded(sum: u32) -> u8
+    requires { ⌜ sum < 65536 ⌝ }
     ensures { λ r. ⌜ r ≡ closedForm sum ⌝ }
 {
-    if sum == 0 {
-        0
-    } else {
-        ((sum - 1) % 255 + 1) as u8
-    }
+    let once = fold(sum);
+    let twice = fold(once);
+    twice as u8
 }
 
 // The checksum of a signature, a length and a name whose bytes have this plain sum.

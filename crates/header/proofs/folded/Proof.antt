@@ -1,23 +1,27 @@
--- `header::folded` meets its contract: 0, or the case of a sum above it.
+-- `header::folded` meets its contract: two folds leave no carry, and are the closed form.
 use borrow.Author.Needs.{needs}
-use Rattle.header.proofs.ChecksumLaws.{closed-zero, closed-positive}
+use mathlib.Core.Path.{ap, _∙_}
+use native.Mathlib.Omega.{arith}
+use Rattle.header.specs.Checksum.{fold}
+use Rattle.header.proofs.ChecksumLaws.{folds-byte, folds-closed}
 use Rattle.header.proofs.folded.Statement.{statement}
 use Rattle.header.proofs.folded.Tie as tie
 
-sub-result : tie.Need-sub-result
-sub-result c = search needs
+fold-requires : tie.Need-fold-requires
+fold-requires c κs = search needs
 
-add-result : tie.Need-add-result
-add-result c = search needs
+fold-requires-2 : tie.Need-fold-requires-2
+fold-requires-2 c κs = search needs
 
 cast-result : tie.Need-cast-result
-cast-result c = search needs
+cast-result c =
+    let a = c .before .before in
+    omega (arith, c .fold2 .ensures, c .before .fold .ensures, folds-byte (a .args .sum) (a .pre))
 
 returns : tie.Need-returns
-returns c = closed-zero (c .before .args .sum) (c .if1 .taken)
-
-returns-2 : tie.Need-returns-2
-returns-2 c = closed-positive (c .before .args .sum) (c .if1 .left)
+returns c =
+    let a = c .before .before in
+    c .fold2 .ensures ∙ ap fold (c .before .fold .ensures) ∙ folds-closed (a .args .sum) (a .pre)
 
 pub folded-spec : {M : Type 1} → statement M
-folded-spec = tie.close (tie.spec sub-result add-result cast-result returns returns-2)
+folded-spec = tie.close (tie.spec fold-requires fold-requires-2 cast-result returns)

@@ -275,6 +275,50 @@ fn checksum_header(rng: &mut Rng, round: usize) -> [u8; 16] {
     header
 }
 
+/// One partition for every plain sum that the covered bytes can have.
+pub fn plain_sums(ctx: &mut Context) -> Outcome {
+    let step = if ctx.quick { 17 } else { 1 };
+    let mut twin = Twin::new(&[]);
+    for sum in (1..=15 * 255).step_by(step) {
+        ctx.recipe = format!("one partition whose covered bytes add up to {sum}");
+        let mut image = image_of_sum(sum);
+        let right = image[1];
+        ctx.same("the closed form", usize::from(right), (sum - 1) % 255 + 1)?;
+        let one_fold = (sum % 256 + sum / 256) as u8;
+        for stored in [
+            right,
+            right.wrapping_add(1),
+            right.wrapping_sub(1),
+            one_fold,
+        ] {
+            image[1] = stored;
+            twin.load(&image);
+            let reply = twin.call(ctx, &Request::Check)?;
+            let code = if stored == right { 0 } else { 4 };
+            ctx.same("the code of the check", reply.code, code)?;
+        }
+    }
+    Ok(())
+}
+
+/// One partition whose covered bytes add up to a sum, in as few blocks as that allows.
+fn image_of_sum(sum: usize) -> Vec<u8> {
+    let mut left = sum - 1;
+    let mut more = |byte: &mut u8| {
+        let part = left.min(usize::from(0xFF - *byte));
+        *byte += part as u8;
+        left -= part;
+    };
+    let (mut signature, mut name, mut length) = (0, [0; 12], [0, 1]);
+    more(&mut signature);
+    name.iter_mut().for_each(&mut more);
+    length.iter_mut().rev().for_each(&mut more);
+    let blocks = u16::from_be_bytes(length);
+    let mut image = header_bytes(signature, blocks, &name).to_vec();
+    image.resize(16 * usize::from(blocks), 0);
+    image
+}
+
 /// Finding by names and signatures that are nearly the same.
 pub fn finding(ctx: &mut Context) -> Outcome {
     const NAMES: [&[u8]; 10] = [

@@ -29,6 +29,7 @@ pub const CASES: &[Case] = &[
     case("image-lengths", headers::image_lengths),
     case("header-faults", headers::header_faults),
     case("checksums", headers::checksums),
+    case("plain-sums", headers::plain_sums),
     case("finding", headers::finding),
     case("listings", headers::listings),
     case("small-areas-at-start", areas::small_at_start),
