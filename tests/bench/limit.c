@@ -3,7 +3,7 @@
 #include <stddef.h>
 #include <string.h>
 
-/* Adds the 15 bytes under the checksum of every 16-byte header. */
+/* Adds the 15 bytes that the checksum of every 16-byte header covers. */
 size_t limit_headers(const unsigned char *image, size_t length)
 {
     size_t sum = 0;

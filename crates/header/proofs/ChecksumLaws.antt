@@ -63,16 +63,16 @@ zero-exactly bs a = (
   λ z. closed-form bs a ∙ ap closedForm (sum-of-zeros bs z),
 )
 
--- a number with no carry is left as it is: where the first fold leaves none, the second changes nothing
-pub fold-none : (s : ℕ) → s < 256 → fold s ≡ s
-fold-none s h = omega arith
+-- a fold leaves a number without a carry as it is
+pub fold-no-carry : (s : ℕ) → s < 256 → fold s ≡ s
+fold-no-carry s h = omega arith
 
 -- two folds of a number of 16 bits leave no carry
 pub folds-byte : (s : ℕ) → s < 65536 → fold (fold s) < 256
 folds-byte s h = omega arith
 
--- and are the closed form
-pub folds-closed : (s : ℕ) → s < 65536 → fold (fold s) ≡ closedForm s
+-- two folds of a number of 16 bits are its closed form
+folds-closed : (s : ℕ) → s < 65536 → fold (fold s) ≡ closedForm s
 unfolding closedForm
 folds-closed zero h = refl
 folds-closed (suc m) h = omega arith
@@ -89,19 +89,20 @@ two-folds bs a n =
     (folds-byte (sum bs) l, folds-closed (sum bs) l ∙ sym (closed-form bs a))
 
 -- fifteen bytes with the plain sum 511
-abbrev pub twiceCarried : List ℕ
-twiceCarried = 0xFF ∷ 0xFF ∷ 0x01 ∷ replicate 12 0x00
+abbrev pub carryLeft : List ℕ
+carryLeft = 0xFF ∷ 0xFF ∷ 0x01 ∷ replicate 12 0x00
 
--- ONE FOLD IS NOT ENOUGH for them: it leaves a carry, and the checksum is 1
-pub one-fold-carries : AllBytes twiceCarried × (length twiceCarried ≡ 15) × (fold (sum twiceCarried) ≡ 256) × (sumcheck twiceCarried ≡ 1)
+-- ONE FOLD IS NOT ENOUGH for them: it leaves a carry, and their checksum is 1
+pub one-fold-not-enough : AllBytes carryLeft × (length carryLeft ≡ 15) × (fold (sum carryLeft) ≡ 256) × (sumcheck carryLeft ≡ 1)
 unfolding sum sumFrom
-one-fold-carries =
+one-fold-not-enough =
     ((omega arith, (omega arith, (omega arith, every-replicate (λ b. b < 256) 12 0x00 (omega arith)))), refl, refl, refl)
 
--- the closed form of the plain sum of a header's fields
-pub sum-covered : (h : Header) → h .signature < 256 → AllBytes (h .name) → (n s r : ℕ) → n ≡ sum (h .name) → s ≡ h .signature
-    → r ≡ closedForm (n + s + h .length .0 / 256 % 256 + h .length .0 % 256) → r ≡ sumcheck (coveredBytes h)
+-- two folds of the plain sum of a header's fields
+pub sum-covered : (h : Header) → h .signature < 256 → AllBytes (h .name) → length (h .name) ≡ 12 → (n s r : ℕ)
+    → n ≡ sum (h .name) → s ≡ h .signature → r ≡ fold (fold (n + s + h .length .0 / 256 % 256 + h .length .0 % 256))
+    → r ≡ sumcheck (coveredBytes h)
 unfolding sum
-sum-covered h l a n s r en es er =
+sum-covered h l a t n s r en es er =
     let e : n + s + h .length .0 / 256 % 256 + h .length .0 % 256 ≡ sum (coveredBytes h) = omega arith in
-    er ∙ ap closedForm e ∙ sym (closed-form (coveredBytes h) (l, (omega arith, (omega arith, a))))
+    er ∙ ap (λ (m : ℕ). fold (fold m)) e ∙ two-folds (coveredBytes h) (l, (omega arith, (omega arith, a))) (omega arith) .1

@@ -17,7 +17,7 @@ use Rattle.errors.specs.Errors.{headerCode}
 use Rattle.header.specs.declared.ValidityAnswer.{ValidityAnswer}
 use Rattle.header.specs.declared.Validity.{Validity}
 use Rattle.header.specs.declared.Validity.the-variants.{Valid, Invalid}
-use Rattle.header.specs.Checksum.{sum, sumcheck, closedForm}
+use Rattle.header.specs.Checksum.{sum, sumcheck, fold}
 use Rattle.header.specs.Header.{byteAt, nameAt, headerAt, bytesOf, coveredBytes, firstBroken, validityOf, validityAt, validityAnswer}
 use Rattle.header.specs.Rules.{blocksAt, checksumAt, Sound, Breaks, two, three, four, five, HeaderRow, is-sound, is-two, is-three, is-four, is-five}
 use Rattle.header.proofs.SumLaws.{name-sum}
@@ -83,12 +83,12 @@ module _ (image : List ℕ) (at : ℕ) where
 
     -- the same of what the code has read of a whole header
     pub checksum-whole : at + 16 ≤ length image → (n s r : ℕ) (l : Blocks) → n ≡ sum (take (at + 16 - (at + 4)) (drop (at + 4) image))
-        → s ≡ headerAt image at .signature → l ≡ headerAt image at .length → r ≡ closedForm (n + s + l .0 / 256 % 256 + l .0 % 256)
-        → r ≡ sumcheck (coveredBytes (headerAt image at))
+        → s ≡ headerAt image at .signature → l ≡ headerAt image at .length
+        → r ≡ fold (fold (n + s + l .0 / 256 % 256 + l .0 % 256)) → r ≡ sumcheck (coveredBytes (headerAt image at))
     unfolding headerAt
     checksum-whole h n s r l en es el er =
-        sum-covered (headerAt image at) (byte 0) name-bytes n s r (en ∙ name-sum image at h) es
-        (er ∙ (λ i. closedForm (n + s + el i .0 / 256 % 256 + el i .0 % 256)))
+        sum-covered (headerAt image at) (byte 0) name-bytes name-length n s r (en ∙ name-sum image at h) es
+        (er ∙ (λ i. fold (fold (n + s + el i .0 / 256 % 256 + el i .0 % 256))))
 
     module _ (z : blocksAt image at ≢ 0) where
       nonzero : headerAt image at .length .0 ≢ 0

@@ -1,4 +1,4 @@
--- The checksum of a header, as the chapter adds it, its closed form, and the fold by which the code takes it.
+-- The checksum of a header, as the chapter adds it, its closed form, and a fold of the plain sum.
 use Prim.Native.Nat.{ℕ, zero, suc, _+_, _-_, _/_, _%_}
 use mathlib.Core.Bool.{cond}
 use mathlib.Core.List.{List, [], _∷_}
@@ -27,6 +27,6 @@ unfoldable pub closedForm : ℕ → ℕ
 closedForm zero = 0
 closedForm (suc s) = s % 255 + 1
 
--- a fold: what stands above the low byte, the carries, is taken off and added to that byte
+-- what stands above the low byte of a number, its carries, is added to that byte; a number below 256 has none
 abbrev pub fold : ℕ → ℕ
 fold s = s % 256 + s / 256

@@ -5,7 +5,7 @@ ghost use mathlib.Core.Path.{_≡_};
 ghost use Prim.Native.Nat.{_+_, _/_, _%_, _≤_, _<_};
 ghost use lib.ListN.{length as len};
 ghost use Rattle.lists.specs.Bytes.{AllBytes};
-ghost use Rattle.header.specs.Checksum.{sum, sumcheck, closedForm, fold};
+ghost use Rattle.header.specs.Checksum.{sum, sumcheck, fold};
 ghost use Rattle.header.specs.Header.{bytesOf, byteAt, nameAt, headerAt, coveredBytes, newHeader, firstBroken, validityOf, validityAt, validityAnswer};
 
 // A length in blocks, as a header holds it.
@@ -290,24 +290,24 @@ fn sum_bytes(bytes: &[u8]) -> u32
 
 // The plain sum of a name.
 fn sum_name(name: &[u8; 12]) -> u32
-    ensures { λ r. ⌜ (r ≡ sum (now (name .entry))) × (r ≤ 4080) × AllBytes (now (name .entry)) ⌝ }
+    ensures { λ r. ⌜ (r ≡ sum (now (name .entry))) × (r ≤ 4080) × AllBytes (now (name .entry)) × (len (now (name .entry)) ≡ 12) ⌝ }
 {
     sum_bytes(name)
 }
 
-// The low byte of a sum, with what stands above it, the carries, added to it.
-fn fold(sum: u32) -> u32
-    ensures { λ r. ⌜ r ≡ fold sum ⌝ }
+// What stands above the low byte of a number, its carries, is added to that byte.
+fn fold(total: u32) -> u32
+    ensures { λ r. ⌜ r ≡ fold total ⌝ }
 {
-    sum % 256 + sum / 256
+    total % 256 + total / 256
 }
 
-// The checksum of bytes that have this plain sum: the first fold may leave a carry, the second leaves none.
-fn folded(sum: u32) -> u8
-    requires { ⌜ sum < 65536 ⌝ }
-    ensures { λ r. ⌜ r ≡ closedForm sum ⌝ }
+// Two folds of the plain sum of some bytes: the first may leave a carry, the second leaves none.
+fn folded(total: u32) -> u8
+    requires { ⌜ total < 65536 ⌝ }
+    ensures { λ r. ⌜ r ≡ fold (fold total) ⌝ }
 {
-    let once = fold(sum);
+    let once = fold(total);
     let twice = fold(once);
     twice as u8
 }
@@ -315,7 +315,7 @@ fn folded(sum: u32) -> u8
 // The checksum of a signature, a length and a name whose bytes have this plain sum.
 fn checksum_of(signature: u8, length: Blocks, name: u32) -> u8
     requires { ⌜ name ≤ 4080 ⌝ }
-    ensures { λ r. ⌜ r ≡ closedForm (name + signature + length .0 / 256 % 256 + length .0 % 256) ⌝ }
+    ensures { λ r. ⌜ r ≡ fold (fold (name + signature + length .0 / 256 % 256 + length .0 % 256)) ⌝ }
 {
     let blocks = length.0;
     folded(name + wide(signature) + blocks / 256 % 256 + blocks % 256)

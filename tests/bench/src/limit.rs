@@ -16,7 +16,7 @@ mod sys {
     }
 }
 
-/// Adds the 15 bytes under the checksum of every 16-byte header.
+/// Adds the 15 bytes that the checksum of every 16-byte header covers.
 pub fn headers(image: &[u8]) -> usize {
     assert_eq!(image.len() % 16, 0);
     // SAFETY: the loop reads whole blocks of 16 bytes inside the slice.

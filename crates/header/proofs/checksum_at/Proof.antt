@@ -1,4 +1,4 @@
--- `header::checksum_at` meets its contract: the closed form of the sum of its 15 bytes.
+-- `header::checksum_at` meets its contract: two folds of the plain sum of its 15 bytes are the checksum.
 use borrow.Author.Needs.{needs}
 use native.Mathlib.Omega.{arith}
 use denote.Ref.{now}

@@ -1,8 +1,8 @@
--- `header::checksum_of` meets its contract: the sum fits, and is folded.
+-- `header::checksum_of` meets its contract: the sum fits, and is folded twice.
 use borrow.Author.Needs.{needs}
 use Prim.Native.Nat.{ℕ, _+_, _/_, _%_}
 use mathlib.Core.Path.{ap, _∙_}
-use Rattle.header.specs.Checksum.{closedForm}
+use Rattle.header.specs.Checksum.{fold}
 use Rattle.header.proofs.checksum_of.Statement.{statement}
 use Rattle.header.proofs.checksum_of.Tie as tie
 
@@ -25,7 +25,7 @@ returns : tie.Need-returns
 returns c =
     let a = c .before .before .args in
     c .folded .ensures
-    ∙ ap (λ (s : ℕ). closedForm (a .name + s + a .length .0 / 256 % 256 + a .length .0 % 256)) (c .before .wide .ensures)
+    ∙ ap (λ (s : ℕ). fold (fold (a .name + s + a .length .0 / 256 % 256 + a .length .0 % 256))) (c .before .wide .ensures)
 
 pub checksum-of-spec : {M : Type 1} → statement M
 checksum-of-spec =

@@ -1,9 +1,9 @@
--- `header::folded` meets its contract: two folds leave no carry, and are the closed form.
+-- `header::folded` meets its contract: two folds leave no carry, so that the byte holds them.
 use borrow.Author.Needs.{needs}
 use mathlib.Core.Path.{ap, _∙_}
 use native.Mathlib.Omega.{arith}
 use Rattle.header.specs.Checksum.{fold}
-use Rattle.header.proofs.ChecksumLaws.{folds-byte, folds-closed}
+use Rattle.header.proofs.ChecksumLaws.{folds-byte}
 use Rattle.header.proofs.folded.Statement.{statement}
 use Rattle.header.proofs.folded.Tie as tie
 
@@ -16,12 +16,10 @@ fold-requires-2 c κs = search needs
 cast-result : tie.Need-cast-result
 cast-result c =
     let a = c .before .before in
-    omega (arith, c .fold2 .ensures, c .before .fold .ensures, folds-byte (a .args .sum) (a .pre))
+    omega (arith, c .fold2 .ensures, c .before .fold .ensures, folds-byte (a .args .total) (a .pre))
 
 returns : tie.Need-returns
-returns c =
-    let a = c .before .before in
-    c .fold2 .ensures ∙ ap fold (c .before .fold .ensures) ∙ folds-closed (a .args .sum) (a .pre)
+returns c = c .fold2 .ensures ∙ ap fold (c .before .fold .ensures)
 
 pub folded-spec : {M : Type 1} → statement M
 folded-spec = tie.close (tie.spec fold-requires fold-requires-2 cast-result returns)

@@ -1,4 +1,4 @@
--- `Header::computed_checksum` meets its contract: the closed form of the plain sum is the checksum.
+-- `Header::computed_checksum` meets its contract: two folds of the plain sum are the checksum.
 use borrow.Author.Needs.{needs}
 use native.Mathlib.Omega.{arith}
 use mathlib.Core.Path.{refl}
@@ -16,8 +16,9 @@ returns : tie.Need-returns
 returns c =
     let n = c .before in
     let a = n .before .before .before .args in
-    sum-covered (a .self) (omega arith) (n .sum-name .ensures .2) (n .sum-name .result) (a .self .signature) (c .checksum-of .result)
-    (n .sum-name .ensures .0) refl (c .checksum-of .ensures)
+    let e = n .sum-name .ensures in
+    sum-covered (a .self) (omega arith) (e .2) (e .3) (n .sum-name .result) (a .self .signature) (c .checksum-of .result)
+    (e .0) refl (c .checksum-of .ensures)
 
 pub computed-checksum-spec : {M : Type 1} → statement M
 computed-checksum-spec = tie.close (tie.spec sum-name-requires checksum-of-requires returns)
