@@ -180,6 +180,8 @@ impl Header {
 fn first_broken(blocks: Blocks, stored: u8, computed: u8, at: usize, room: usize) -> Validity
     ensures { λ r. ⌜ r ≡ firstBroken blocks stored computed at room ⌝ }
 {
+    // Compared before the other tests, since the compiler then adds the covered bytes as a vector.
+    let differs = stored != computed;
     if blocks.0 == 0 {
         let fault = HeaderFault::ZeroLength;
         return Validity::Invalid(Error::BadHeader { fault, at });
@@ -189,7 +191,7 @@ fn first_broken(blocks: Blocks, stored: u8, computed: u8, at: usize, room: usize
         let fault = HeaderFault::PastEnd;
         return Validity::Invalid(Error::BadHeader { fault, at });
     }
-    if stored != computed {
+    if differs {
         let fault = HeaderFault::Checksum;
         return Validity::Invalid(Error::BadHeader { fault, at });
     }
