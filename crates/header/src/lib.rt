@@ -305,7 +305,7 @@ fn fold(total: u32) -> u32
 }
 
 // Two folds of the plain sum of some bytes: the first may leave a carry, the second leaves none.
-fn folded(total: u32) -> u8
+fn fold_twice(total: u32) -> u8
     requires { ⌜ total < 65536 ⌝ }
     ensures { λ r. ⌜ r ≡ fold (fold total) ⌝ }
 {
@@ -320,7 +320,7 @@ fn checksum_of(signature: u8, length: Blocks, name: u32) -> u8
     ensures { λ r. ⌜ r ≡ fold (fold (name + signature + length .0 / 256 % 256 + length .0 % 256)) ⌝ }
 {
     let blocks = length.0;
-    folded(name + wide(signature) + blocks / 256 % 256 + blocks % 256)
+    fold_twice(name + wide(signature) + blocks / 256 % 256 + blocks % 256)
 }
 
 // The checksum that is right for a whole header at an offset.

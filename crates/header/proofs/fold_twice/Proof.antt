@@ -1,11 +1,11 @@
--- `header::folded` meets its contract: two folds leave no carry, so that the byte holds them.
+-- `header::fold_twice` meets its contract: two folds leave no carry, so that the byte holds them.
 use borrow.Author.Needs.{needs}
 use mathlib.Core.Path.{ap, _∙_}
 use native.Mathlib.Omega.{arith}
 use Rattle.header.specs.Checksum.{fold}
 use Rattle.header.proofs.ChecksumLaws.{folds-byte}
-use Rattle.header.proofs.folded.Statement.{statement}
-use Rattle.header.proofs.folded.Tie as tie
+use Rattle.header.proofs.fold_twice.Statement.{statement}
+use Rattle.header.proofs.fold_twice.Tie as tie
 
 fold-requires : tie.Need-fold-requires
 fold-requires c κs = search needs
@@ -21,5 +21,5 @@ cast-result c =
 returns : tie.Need-returns
 returns c = c .fold2 .ensures ∙ ap fold (c .before .fold .ensures)
 
-pub folded-spec : {M : Type 1} → statement M
-folded-spec = tie.close (tie.spec fold-requires fold-requires-2 cast-result returns)
+pub fold-twice-spec : {M : Type 1} → statement M
+fold-twice-spec = tie.close (tie.spec fold-requires fold-requires-2 cast-result returns)
