@@ -55,11 +55,15 @@ unfolding closedForm
 closed-none zero e = refl
 closed-none (suc m) e = absurd (omega arith)
 
+-- the closed form is 0 only where every byte is zero
+pub closed-zeros : (bs : List ℕ) → closedForm (sum bs) ≡ 0 → Every (λ b. b ≡ 0) bs
+closed-zeros bs e = zeros-of-sum bs (closed-none (sum bs) e)
+
 -- 0 comes out exactly where every covered byte is zero
 pub zero-exactly : (bs : List ℕ) → AllBytes bs → (sumcheck bs ≡ 0) ↔ Every (λ b. b ≡ 0) bs
 unfolding closedForm
 zero-exactly bs a = (
-  λ e. zeros-of-sum bs (closed-none (sum bs) (sym (closed-form bs a) ∙ e)),
+  λ e. closed-zeros bs (sym (closed-form bs a) ∙ e),
   λ z. closed-form bs a ∙ ap closedForm (sum-of-zeros bs z),
 )
 

@@ -21,7 +21,7 @@ use Rattle.header.specs.Checksum.{sum, sumcheck, fold}
 use Rattle.header.specs.Header.{byteAt, nameAt, headerAt, bytesOf, coveredBytes, firstBroken, validityOf, validityAt, validityAnswer}
 use Rattle.header.specs.Rules.{blocksAt, checksumAt, Sound, Breaks, two, three, four, five, HeaderRow, is-sound, is-two, is-three, is-four, is-five}
 use Rattle.header.proofs.SumLaws.{name-sum}
-use Rattle.header.proofs.ChecksumLaws.{closed-form, sum-covered}
+use Rattle.header.proofs.ChecksumLaws.{closed-form, closed-zeros, sum-covered}
 use Rattle.header.proofs.ValidityLaws.{zero-length, past-end, checksum-differs, checksum-zero, no-rule-broken, cut-off}
 
 module _ (image : List ℕ) (at : ℕ) where
@@ -44,6 +44,11 @@ module _ (image : List ℕ) (at : ℕ) where
   pub name-length : len (nameAt image at) ≡ 12
   unfolding nameAt
   name-length = refl
+
+  -- A CHECKSUM THAT AGREES IS NOT ZERO where the length is not zero: a byte of the length is covered and is not zero
+  pub agreeing-nonzero : blocksAt image at ≢ 0 → byteAt image at 1 ≡ checksumAt image at → byteAt image at 1 ≢ 0
+  unfolding blocksAt checksumAt
+  agreeing-nonzero n a z = let e = closed-zeros _ (sym a ∙ z) in n (omega (arith, e .1 .0, e .1 .1 .0))
 
   -- the first broken rule, by what the code has read
   module _ (b : Blocks) (eb : b ≡ headerAt image at .length) (room : ℕ) (er : room ≡ length image - at) (r : Validity) where
