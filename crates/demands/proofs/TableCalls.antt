@@ -70,7 +70,6 @@ module _ (I : List ℕ) (bytes : AllBytes I) where
   row-seen b (Answers.two {r = r} h x) = header-seen I bytes r h x
   row-seen b (Answers.three {r = r} h x) = header-seen I bytes r h x
   row-seen b (Answers.four {r = r} h x) = header-seen I bytes r h x
-  row-seen b (Answers.five {r = r} h x) = header-seen I bytes r h x
   row-seen b (Answers.six {r = r} w x) = missed-seen I bytes r NoPartition w (inr (refl, x))
   row-seen b (Answers.seven h x) = fault-seen h x
   row-seen b (Answers.eight h x) = fault-seen h x

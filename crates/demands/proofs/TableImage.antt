@@ -1,4 +1,4 @@
--- Rows 1 to 6 and 11 of the table for every request, and the rows of the image check, of a partition and of its area.
+-- Rows 1 to 4, 6 and 11 of the table for every request, and the rows of the image check, of a partition and of its area.
 use Prim.Native.Nat.{ℕ}
 use mathlib.Core.Path.{_≡_, refl, sym, ap, subst, _∙_}
 use mathlib.Core.Logic.{_⊎_, inl, inr}
@@ -6,7 +6,7 @@ use mathlib.Core.List.{List, []}
 use Rattle.lists.specs.Bytes.{AllBytes}
 use Rattle.lists.proofs.Tests.{clash}
 use Rattle.errors.specs.declared.HeaderFault.{HeaderFault}
-use Rattle.errors.specs.declared.HeaderFault.the-variants.{ZeroLength, PastEnd, Checksum, ZeroChecksum}
+use Rattle.errors.specs.declared.HeaderFault.the-variants.{ZeroLength, PastEnd, Checksum}
 use Rattle.errors.specs.declared.Error.{Error}
 use Rattle.errors.specs.declared.Error.the-variants.{NoPartition, BadName}
 use Rattle.errors.specs.Errors.{headerCode, codeOf, offsetOf}
@@ -66,13 +66,12 @@ pub eleven-seen : {name : List ℕ} (r : Request) (I : List ℕ) → Takes r nam
 eleven-seen {name} (variable call) I k q =
     split-check (callCheck call) (λ t. absurd (q (named-well call t name k))) (λ at t. misnamed-seen call I at t)
 
--- ---- 1 to 6
+-- ---- 1 to 4, and 6
 
 header-row : {r : Request} {I : List ℕ} {a : ℕ} → AtHeader r I a → (f : HeaderFault) → Breaks I a f → Answers I r (refuses r I (headerCode f) a)
 header-row h ZeroLength x = Answers.two h x
 header-row h PastEnd x = Answers.three h x
 header-row h Checksum x = Answers.four h x
-header-row h ZeroChecksum x = Answers.five h x
 
 -- the image refuses a request
 abbrev pub Missed : List ℕ → Request → Error → Type 0

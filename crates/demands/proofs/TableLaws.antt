@@ -26,7 +26,6 @@ untouched (Answers.one w q) n = refused-so _ _ _ _
 untouched (Answers.two h x) n = refused-so _ _ _ _
 untouched (Answers.three h x) n = refused-so _ _ _ _
 untouched (Answers.four h x) n = refused-so _ _ _ _
-untouched (Answers.five h x) n = refused-so _ _ _ _
 untouched (Answers.six w x) n = refused-so _ _ _ _
 untouched (Answers.seven h x) n = refused-so _ _ _ _
 untouched (Answers.eight h x) n = refused-so _ _ _ _

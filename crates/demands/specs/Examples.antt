@@ -45,7 +45,7 @@ seven =
 abbrev nine : List ℕ
 nine = holding (0x61 ∷ 0x3D ∷ 0xFF ∷ 0x01 ∷ 0xFF ∷ 0x01 ∷ 0x00 ∷ 0x00 ∷ replicate 8 0xAA)
 
--- each example by its number; those that are marked P and two more of what 6 leaves
+-- each example by its number; those that are marked P, two more of what 6 leaves, and a header of zeros
 pub record Examples : Type 0 where
   pub one-2 : sumcheck (commonCovered 2) ≡ 0xFD
   pub one-3 : sumcheck (commonCovered 3) ≡ 0xFE
@@ -58,6 +58,7 @@ pub record Examples : Type 0 where
   pub five-first : checkOf (take 32 E) ≡ Accepted 1
   pub five-past : checkOf (0x70 ∷ 0xFD ∷ 0x00 ∷ 0x03 ∷ drop 4 (take 32 E)) ≡ Refused (BadHeader PastEnd 0)
   pub five-zero : checkOf (0x70 ∷ 0xFD ∷ 0x00 ∷ 0x00 ∷ drop 4 (take 32 E)) ≡ Refused (BadHeader ZeroLength 0)
+  pub zeros : checkOf (replicate 16 0x00) ≡ Refused (BadHeader ZeroLength 0)
   pub six-set : callImage (set (0x62 ∷ []) (0x00 ∷ 0x00 ∷ 0xFF ∷ [])) E ≡ record { told = told 0 0 0; image = six }
   -- what 6 leaves is read into four bytes, and counted
   pub six-read : callImage (read (0x62 ∷ []) (replicate 4 0x05)) six
@@ -98,6 +99,7 @@ examples = record {
   five-first = refl;
   five-past = refl;
   five-zero = refl;
+  zeros = refl;
   six-set = refl;
   six-read = refl;
   six-count = refl;

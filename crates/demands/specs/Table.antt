@@ -4,7 +4,7 @@ use Prim.Native.Nat.{ℕ, _+_, _≤_, _<_}
 use mathlib.Core.Path.{_≡_}
 use mathlib.Core.List.{List, [], _∷_}
 use lib.ListN.{length, drop, take}
-use Rattle.errors.specs.declared.HeaderFault.the-variants.{ZeroLength, PastEnd, Checksum, ZeroChecksum}
+use Rattle.errors.specs.declared.HeaderFault.the-variants.{ZeroLength, PastEnd, Checksum}
 use Rattle.errors.specs.declared.AreaFault.the-variants.{AreaEnd, StoredName, Escape, Repeated}
 use Rattle.header.specs.Rules.{Breaks}
 use Rattle.partitions.specs.declared.Partition.{Partition}
@@ -39,7 +39,7 @@ pub data Absent (I : List ℕ) : Request → Type 0 where
   no-name : {signature : ℕ} {name : List ℕ} → NotNamed I signature name → Absent I (find signature name)
   no-area : {signature : ℕ} {name : List ℕ} → NotNamed I signature name → Absent I (area signature name)
 
--- not 11, not 1 to 6: `common` stands at a; its area begins with good pairs, no name twice, and then comes rest
+-- not 11, not 1 to 4, not 6: `common` stands at a; its area begins with good pairs, no name twice, and then comes rest
 pub record AtPair (call : Call) (I : List ℕ) (a : ℕ) (es : List Entry) (rest : List ℕ) : Type 0 where
   pub named : WellNamed (variable call)
   pub partition : Partition
@@ -71,8 +71,6 @@ pub data Answers (I : List ℕ) : Request → Seen → Type 0 where
   three : {r : Request} {a : ℕ} → AtHeader r I a → Breaks I a PastEnd → Answers I r (refuses r I 3 a)
   -- stored and computed checksum differ
   four : {r : Request} {a : ℕ} → AtHeader r I a → Breaks I a Checksum → Answers I r (refuses r I 4 a)
-  -- they agree and are zero
-  five : {r : Request} {a : ℕ} → AtHeader r I a → Breaks I a ZeroChecksum → Answers I r (refuses r I 5 a)
   -- partition not found
   six : {r : Request} → WellNamed r → Absent I r → Answers I r (refuses r I 6 0)
   -- area ends inside a pair, or where a pair or the end should begin; the offset is just past the area

@@ -1,7 +1,7 @@
 -- The table of the codes that a caller may see (document 01: numbers), and the offset answered with each.
 use Prim.Native.Nat.{ℕ, _+_}
 use Rattle.errors.specs.declared.HeaderFault.{HeaderFault}
-use Rattle.errors.specs.declared.HeaderFault.the-variants.{ZeroLength, PastEnd, Checksum, ZeroChecksum}
+use Rattle.errors.specs.declared.HeaderFault.the-variants.{ZeroLength, PastEnd, Checksum}
 use Rattle.errors.specs.declared.AreaFault.{AreaFault}
 use Rattle.errors.specs.declared.AreaFault.the-variants.{AreaEnd, StoredName, Escape, Repeated}
 use Rattle.errors.specs.declared.Error.{Error}
@@ -12,7 +12,6 @@ abbrev pub headerCode : HeaderFault → ℕ
 headerCode ZeroLength = 2
 headerCode PastEnd = 3
 headerCode Checksum = 4
-headerCode ZeroChecksum = 5
 
 -- the code of a variable area's fault
 abbrev pub areaCode : AreaFault → ℕ

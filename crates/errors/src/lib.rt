@@ -10,8 +10,6 @@ pub enum HeaderFault {
     PastEnd,
     // 4: the stored and the computed checksum differ.
     Checksum,
-    // 5: they agree and are zero.
-    ZeroChecksum,
 }
 
 impl HeaderFault {
@@ -23,7 +21,6 @@ impl HeaderFault {
             HeaderFault::ZeroLength => 2,
             HeaderFault::PastEnd => 3,
             HeaderFault::Checksum => 4,
-            HeaderFault::ZeroChecksum => 5,
         }
     }
 }
@@ -58,7 +55,7 @@ impl AreaFault {
 pub enum Error {
     // 1: the image's length is outside the rule.
     ImageLength,
-    // 2 to 5: the header at this offset breaks a rule.
+    // 2 to 4: the header at this offset breaks a rule.
     BadHeader { fault: HeaderFault, at: usize },
     // 6: the partition is not found.
     NoPartition,

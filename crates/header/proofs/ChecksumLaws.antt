@@ -2,7 +2,7 @@
 use Prim.Native.Nat.{ℕ, zero, suc, _+_, _-_, _*_, _/_, _%_, _≤_, _<_}
 use mathlib.Core.Path.{_≡_, ap, refl, sym, _∙_}
 use mathlib.Core.List.{List, [], _∷_}
-use mathlib.Core.Logic.{_↔_}
+use mathlib.Core.Logic.{_≢_, _↔_}
 use native.Mathlib.Omega.{arith}
 use native.Mathlib.Decide.{decLe}
 use lib.ListN.{length, replicate}
@@ -66,6 +66,13 @@ zero-exactly bs a = (
   λ e. closed-zeros bs (sym (closed-form bs a) ∙ e),
   λ z. closed-form bs a ∙ ap closedForm (sum-of-zeros bs z),
 )
+
+-- the checksum of a header of 1 to 65,535 blocks is not zero, since a byte of the length is covered and is not zero
+pub header-nonzero : (h : Header) → h .signature < 256 → AllBytes (h .name) → h .length .0 ≢ 0 → h .length .0 ≤ 65535
+    → sumcheck (coveredBytes h) ≢ 0
+header-nonzero h l a n m e =
+    let z = zero-exactly (coveredBytes h) (l, (omega arith, (omega arith, a))) .0 e in
+    n (omega (arith, z .1 .0, z .1 .1 .0))
 
 -- a fold leaves a number without a carry as it is
 pub fold-no-carry : (s : ℕ) → s < 256 → fold s ≡ s

@@ -1,7 +1,7 @@
 -- A header that is made: allowed exactly for the lengths that a header can hold, read back from its 16 bytes, and sound where it fits.
 use Prim.Native.Nat.{ℕ, _+_, _*_, _/_, _%_, _≤_, _<_}
 use mathlib.Core.Path.{_≡_, ap, refl, sym, _∙_}
-use mathlib.Core.Logic.{_≢_, _↔_}
+use mathlib.Core.Logic.{_↔_}
 use mathlib.Core.Bool.{true}
 use mathlib.Core.List.{List, _∷_}
 use native.Mathlib.Omega.{arith}
@@ -15,7 +15,7 @@ use Rattle.header.specs.Checksum.{sum, sumcheck, closedForm}
 use Rattle.header.specs.Header.{byteAt, nameAt, headerAt, headerBytes, sealed, newHeader}
 use Rattle.header.specs.Rules.{blocksAt, checksumAt, Sound}
 use Rattle.header.proofs.SumLaws.{header-bytes}
-use Rattle.header.proofs.ChecksumLaws.{closed-form, zero-exactly}
+use Rattle.header.proofs.ChecksumLaws.{closed-form}
 
 module _ (signature : ℕ) (blocks : Blocks) (name : List ℕ) where
   -- the checksum covers these
@@ -83,9 +83,6 @@ module _ (signature : ℕ) (blocks : Blocks) (name : List ℕ) where
         all : AllBytes over
         all = (byte, (omega arith, (omega arith, bytes)))
 
-        some : sumcheck over ≢ 0
-        some e = let z = zero-exactly over all .0 e in omega (arith, z .1 .0, z .1 .1 .0, length-range)
-
         -- AND IS SOUND where it fits
         pub new-sound : at + blocks .0 * 16 ≤ len image → Sound image at
         unfolding blocksAt checksumAt
@@ -95,5 +92,4 @@ module _ (signature : ℕ) (blocks : Blocks) (name : List ℕ) where
           agrees =
               fields .sum-is ∙ closed-form over all
               ∙ sym (λ i. closedForm (sum (fields .signed i ∷ fields .high i ∷ fields .low i ∷ fields .named i)));
-          marked = λ z. some (sym (fields .sum-is) ∙ z);
         }

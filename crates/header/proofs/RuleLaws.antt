@@ -11,7 +11,7 @@ use Rattle.lists.proofs.Tests.{clash}
 use Rattle.lists.proofs.ByteLaws.{every-get}
 use Rattle.header.specs.declared.Blocks.{Blocks}
 use Rattle.errors.specs.declared.HeaderFault.{HeaderFault}
-use Rattle.errors.specs.declared.HeaderFault.the-variants.{ZeroLength, PastEnd, Checksum, ZeroChecksum}
+use Rattle.errors.specs.declared.HeaderFault.the-variants.{ZeroLength, PastEnd, Checksum}
 use Rattle.errors.specs.declared.Error.the-variants.{BadHeader}
 use Rattle.errors.specs.Errors.{headerCode}
 use Rattle.header.specs.declared.ValidityAnswer.{ValidityAnswer}
@@ -19,10 +19,10 @@ use Rattle.header.specs.declared.Validity.{Validity}
 use Rattle.header.specs.declared.Validity.the-variants.{Valid, Invalid}
 use Rattle.header.specs.Checksum.{sum, sumcheck, fold}
 use Rattle.header.specs.Header.{byteAt, nameAt, headerAt, bytesOf, coveredBytes, firstBroken, validityOf, validityAt, validityAnswer}
-use Rattle.header.specs.Rules.{blocksAt, checksumAt, Sound, Breaks, two, three, four, five, HeaderRow, is-sound, is-two, is-three, is-four, is-five}
+use Rattle.header.specs.Rules.{blocksAt, checksumAt, Sound, Breaks, two, three, four, HeaderRow, is-sound, is-two, is-three, is-four}
 use Rattle.header.proofs.SumLaws.{name-sum}
 use Rattle.header.proofs.ChecksumLaws.{closed-form, closed-zeros, sum-covered}
-use Rattle.header.proofs.ValidityLaws.{zero-length, past-end, checksum-differs, checksum-zero, no-rule-broken, cut-off}
+use Rattle.header.proofs.ValidityLaws.{zero-length, past-end, checksum-differs, no-rule-broken, cut-off, withZeroTest, zero-test-idle}
 
 module _ (image : List ℕ) (at : ℕ) where
   pub blocks-read : headerAt image at .length .0 ≡ blocksAt image at
@@ -45,10 +45,22 @@ module _ (image : List ℕ) (at : ℕ) where
   unfolding nameAt
   name-length = refl
 
-  -- A CHECKSUM THAT AGREES IS NOT ZERO where the length is not zero: a byte of the length is covered and is not zero
+  -- A CHECKSUM THAT AGREES IS NOT ZERO where the length is not zero, since a byte of the length is covered and is not zero
   pub agreeing-nonzero : blocksAt image at ≢ 0 → byteAt image at 1 ≡ checksumAt image at → byteAt image at 1 ≢ 0
   unfolding blocksAt checksumAt
   agreeing-nonzero n a z = let e = closed-zeros _ (sym a ∙ z) in n (omega (arith, e .1 .0, e .1 .1 .0))
+
+  -- so the checksum of a sound header is not zero
+  pub sound-checksum : Sound image at → byteAt image at 1 ≢ 0
+  sound-checksum s = agreeing-nonzero (s .nonzero) (s .agrees)
+
+  -- A HEADER IS SOUND exactly when its length is not zero, its partition ends inside the image, and its checksum agrees and is not zero
+  pub sound-exactly : Sound image at
+      ↔ ((blocksAt image at ≢ 0) × (at + blocksAt image at * 16 ≤ length image) × (byteAt image at 1 ≡ checksumAt image at) × (byteAt image at 1 ≢ 0))
+  sound-exactly = (
+    λ s. (s .nonzero, s .inside, s .agrees, sound-checksum s),
+    λ h. record { nonzero = h .0; inside = h .1; agrees = h .2 },
+  )
 
   -- the first broken rule, by what the code has read
   module _ (b : Blocks) (eb : b ≡ headerAt image at .length) (room : ℕ) (er : room ≡ length image - at) (r : Validity) where
@@ -86,6 +98,14 @@ module _ (image : List ℕ) (at : ℕ) where
     unfolding checksumAt
     sum-read = ap sumcheck covered-read ∙ closed-form _ (byte 0, (byte 2, (byte 3, name-bytes)))
 
+    -- A TEST MORE, for a checksum of zero, changes nothing at any offset of any image, whatever it answers
+    pub zero-test-idle-at : (v : Validity) → withZeroTest (headerAt image at) at (length image - at) v ≡ validityAt image at
+    unfolding headerAt validityAt
+    zero-test-idle-at v =
+        let b2 = byte 2 in
+        let b3 = byte 3 in
+        zero-test-idle (headerAt image at) (byte 0) name-bytes (omega arith) at (length image - at) v
+
     -- the same of what the code has read of a whole header
     pub checksum-whole : at + 16 ≤ length image → (n s r : ℕ) (l : Blocks) → n ≡ sum (take (at + 16 - (at + 4)) (drop (at + 4) image))
         → s ≡ headerAt image at .signature → l ≡ headerAt image at .length
@@ -116,17 +136,13 @@ module _ (image : List ℕ) (at : ℕ) where
         let h = headerAt image at in
         sym (checksum-differs (h .length) (h .checksum) (sumcheck (coveredBytes h)) at (length image - at) (nonzero z) (bytesOf (h .length)) refl (fits z f)
         (λ e. a (sym checksum-read ∙ e ∙ sum-read)))
-    breaks-invalid (five z f a m) =
-        let h = headerAt image at in
-        sym (checksum-zero (h .length) (h .checksum) (sumcheck (coveredBytes h)) at (length image - at) (nonzero z) (bytesOf (h .length)) refl (fits z f)
-        (checksum-read ∙ a ∙ sym sum-read) (sum-read ∙ sym a ∙ m))
 
     pub sound-valid : Sound image at → validityAt image at ≡ Valid
     unfolding validityAt validityOf
     sound-valid s =
         let h = headerAt image at in
         sym (no-rule-broken (h .length) (h .checksum) (sumcheck (coveredBytes h)) at (length image - at) (nonzero (s .nonzero)) (bytesOf (h .length)) refl
-        (fits (s .nonzero) (s .inside)) (checksum-read ∙ s .agrees ∙ sym sum-read) (λ e. s .marked (s .agrees ∙ sym sum-read ∙ e)))
+        (fits (s .nonzero) (s .inside)) (checksum-read ∙ s .agrees ∙ sym sum-read))
 
     -- what the rules say of the header at an offset
     data Judged : Validity → Type 0 where
@@ -136,22 +152,21 @@ module _ (image : List ℕ) (at : ℕ) where
     judged : Judged (validityAt image at)
     judged =
         go (ℕ-discrete (blocksAt image at) 0) (decLe (at + blocksAt image at * 16) (length image))
-        (ℕ-discrete (byteAt image at 1) (checksumAt image at)) (ℕ-discrete (byteAt image at 1) 0)
+        (ℕ-discrete (byteAt image at 1) (checksumAt image at))
       where
         broken : {f : HeaderFault} → Breaks image at f → Judged (validityAt image at)
         broken b = rw (breaks-invalid b) (faulty b)
 
         go : Dec (blocksAt image at ≡ 0) → Dec (at + blocksAt image at * 16 ≤ length image) → Dec (byteAt image at 1 ≡ checksumAt image at)
-            → Dec (byteAt image at 1 ≡ 0) → Judged (validityAt image at)
-        go (yes z) f a m = broken (two z)
-        go (no z) (no f) a m = broken (three z (omega arith))
-        go (no z) (yes f) (no a) m = broken (four z f a)
-        go (no z) (yes f) (yes a) (yes m) = broken (five z f a m)
-        go (no z) (yes f) (yes a) (no m) =
-            let s : Sound image at = record { nonzero = z; inside = f; agrees = a; marked = m } in
+            → Judged (validityAt image at)
+        go (yes z) f a = broken (two z)
+        go (no z) (no f) a = broken (three z (omega arith))
+        go (no z) (yes f) (no a) = broken (four z f a)
+        go (no z) (yes f) (yes a) =
+            let s : Sound image at = record { nonzero = z; inside = f; agrees = a } in
             rw (sound-valid s) (sound s)
 
-    -- no rule is broken exactly when all four hold
+    -- no rule is broken exactly when the header is sound
     pub valid-exactly : (validityAt image at ≡ Valid) ↔ Sound image at
     valid-exactly = (go (validityAt image at) judged, sound-valid)
       where
@@ -171,14 +186,12 @@ module _ (image : List ℕ) (at : ℕ) where
     answer-row ZeroLength b = is-two b
     answer-row PastEnd b = is-three b
     answer-row Checksum b = is-four b
-    answer-row ZeroChecksum b = is-five b
 
     answers-validity : {s : ValidityAnswer} → HeaderRow image at s → validityAnswer (validityAt image at) ≡ s
     answers-validity (is-sound x) = ap validityAnswer (sound-valid x)
     answers-validity (is-two b) = ap validityAnswer (breaks-invalid b)
     answers-validity (is-three b) = ap validityAnswer (breaks-invalid b)
     answers-validity (is-four b) = ap validityAnswer (breaks-invalid b)
-    answers-validity (is-five b) = ap validityAnswer (breaks-invalid b)
 
     -- THE CALLER'S VIEW of a header is its row
     pub validity-exactly : (s : ValidityAnswer) → (validityAnswer (validityAt image at) ≡ s) ↔ HeaderRow image at s

@@ -9,7 +9,8 @@ use native.Mathlib.Decide.{ℕ-discrete}
 use lib.ListN.{length as len}
 use lib.Dec.{leb, ltb, eqb}
 use borrow.Author.Tests.{eq-eqb, ne-eqb, lt-ltb, le-ltb, le-leb, lt-leb, eqb-false, ltb-false}
-use Rattle.lists.proofs.Tests.{clash}
+use Rattle.lists.specs.Bytes.{AllBytes}
+use Rattle.lists.proofs.Tests.{split, clash}
 use Rattle.header.specs.declared.Blocks.{Blocks}
 use Rattle.header.specs.declared.Bytes.{Bytes}
 use Rattle.header.specs.declared.Header.{Header}
@@ -18,10 +19,11 @@ use Rattle.header.specs.declared.Validity.{Validity}
 use Rattle.header.specs.declared.Validity.the-variants.{Valid, Invalid}
 use Rattle.errors.specs.declared.Error.{Error}
 use Rattle.errors.specs.declared.HeaderFault.{HeaderFault}
-use Rattle.errors.specs.declared.HeaderFault.the-variants.{ZeroLength, PastEnd, Checksum, ZeroChecksum}
+use Rattle.errors.specs.declared.HeaderFault.the-variants.{ZeroLength, PastEnd, Checksum}
 use Rattle.errors.specs.declared.Error.the-variants.{BadHeader}
 use Rattle.header.specs.Checksum.{sumcheck}
 use Rattle.header.specs.Header.{bytesOf, headerAt, coveredBytes, newHeader, firstBroken, validityOf, validityAt}
+use Rattle.header.proofs.ChecksumLaws.{header-nonzero}
 
 module _ (blocks : Blocks) (stored computed at room : ℕ) where
   pub zero-length : blocks .0 ≡ 0 → Invalid (BadHeader ZeroLength at) ≡ firstBroken blocks stored computed at room
@@ -40,17 +42,30 @@ module _ (blocks : Blocks) (stored computed at room : ℕ) where
       pub checksum-differs : (stored ≡ computed → ⊥) → Invalid (BadHeader Checksum at) ≡ firstBroken blocks stored computed at room
       checksum-differs d = rw (ne-eqb _ _ z, le-ltb _ _ fits, ne-eqb _ _ d)
 
-      pub checksum-zero : stored ≡ computed → computed ≡ 0 → Invalid (BadHeader ZeroChecksum at) ≡ firstBroken blocks stored computed at room
-      checksum-zero a n = rw (ne-eqb _ _ z, le-ltb _ _ fits, eq-eqb _ _ a, eq-eqb _ _ n)
-
-      pub no-rule-broken : stored ≡ computed → (computed ≡ 0 → ⊥) → Valid ≡ firstBroken blocks stored computed at room
-      no-rule-broken a n = rw (ne-eqb _ _ z, le-ltb _ _ fits, eq-eqb _ _ a, ne-eqb _ _ n)
+      pub no-rule-broken : stored ≡ computed → Valid ≡ firstBroken blocks stored computed at room
+      no-rule-broken a = rw (ne-eqb _ _ z, le-ltb _ _ fits, eq-eqb _ _ a)
 
 -- the rules of a header, by its checksum that was computed
 pub check-read : (h : Header) (at room s : ℕ) (r : Validity) → s ≡ sumcheck (coveredBytes h) → r ≡ firstBroken (h .length) (h .checksum) s at room
     → r ≡ validityOf h at room
 unfolding validityOf
 check-read h at room s r es e = e ∙ (λ i. firstBroken (h .length) (h .checksum) (es i) at room)
+
+-- the first broken rule with a test more behind the others, for a checksum of zero, which answers v
+abbrev pub withZeroTest : Header → ℕ → ℕ → Validity → Validity
+withZeroTest h at room v =
+    cond (eqb (h .length .0) 0) (Invalid (BadHeader ZeroLength at))
+    (cond (ltb room (bytesOf (h .length) .0)) (Invalid (BadHeader PastEnd at))
+    (cond (not (eqb (h .checksum) (sumcheck (coveredBytes h)))) (Invalid (BadHeader Checksum at))
+    (cond (eqb (sumcheck (coveredBytes h)) 0) v
+    Valid)))
+
+-- THAT TEST CHANGES NOTHING for a header of at most 65,535 blocks, whatever it answers
+pub zero-test-idle : (h : Header) → h .signature < 256 → AllBytes (h .name) → h .length .0 ≤ 65535 → (at room : ℕ) (v : Validity)
+    → withZeroTest h at room v ≡ validityOf h at room
+unfolding validityOf
+zero-test-idle h l a m at room v =
+    split (eqb (h .length .0) 0) (λ t. rw t) (λ f. rw (ne-eqb _ _ (header-nonzero h l a (eqb-false _ _ f) m)))
 
 -- a header that is cut off breaks 2 or 3, whatever its checksum
 pub cut-off : (blocks : Blocks) (s c t d at room : ℕ) → room < 16 → firstBroken blocks s c at room ≡ firstBroken blocks t d at room
@@ -91,22 +106,20 @@ module _ (signature : ℕ) (blocks : Blocks) (name : List ℕ) (s : ℕ)
     new-allowed l = made true (rw (le-leb _ _ least, le-leb _ _ l))
 
 -- an invalid header is refused for a fault of its own, at its own offset
-fault-by : (a b c d : Bool) (at : ℕ) (e : Error)
-    → cond a (Invalid (BadHeader ZeroLength at)) (cond b (Invalid (BadHeader PastEnd at))
-    (cond c (Invalid (BadHeader Checksum at)) (cond d (Invalid (BadHeader ZeroChecksum at)) Valid))) ≡ Invalid e
+fault-by : (a b c : Bool) (at : ℕ) (e : Error)
+    → cond a (Invalid (BadHeader ZeroLength at)) (cond b (Invalid (BadHeader PastEnd at)) (cond c (Invalid (BadHeader Checksum at)) Valid)) ≡ Invalid e
     → (f : HeaderFault) × (e ≡ BadHeader f at)
-fault-by true b c d at e q = (ZeroLength, cc)
-fault-by false true c d at e q = (PastEnd, cc)
-fault-by false false true d at e q = (Checksum, cc)
-fault-by false false false true at e q = (ZeroChecksum, cc)
-fault-by false false false false at e q = clash (cc)
+fault-by true b c at e q = (ZeroLength, cc)
+fault-by false true c at e q = (PastEnd, cc)
+fault-by false false true at e q = (Checksum, cc)
+fault-by false false false at e q = clash (cc)
 
 pub invalid-here : (image : List ℕ) (at : ℕ) (e : Error) → validityAt image at ≡ Invalid e → (f : HeaderFault) × (e ≡ BadHeader f at)
 unfolding validityAt validityOf
 invalid-here image at e q =
     let h : Header = headerAt image at in
     fault-by (eqb (h .length .0) 0) (ltb (len image - at) (bytesOf (h .length) .0)) (not (eqb (h .checksum) (sumcheck (coveredBytes h))))
-    (eqb (sumcheck (coveredBytes h)) 0) at e q
+    at e q
 
 -- the first two tests of a header that breaks no rule
 valid-tests : (a b : Bool) (w x : Error) (v : Validity) → cond a (Invalid w) (cond b (Invalid x) v) ≡ Valid

@@ -12,7 +12,7 @@ use Rattle.errors.specs.Errors.{codeOf, offsetOf}
 use Rattle.header.specs.declared.ValidityAnswer.{ValidityAnswer}
 use Rattle.header.specs.declared.Validity.{Validity}
 use Rattle.header.specs.declared.Validity.the-variants.{Valid, Invalid}
-use Rattle.errors.specs.declared.HeaderFault.the-variants.{ZeroLength, PastEnd, Checksum, ZeroChecksum}
+use Rattle.errors.specs.declared.HeaderFault.the-variants.{ZeroLength, PastEnd, Checksum}
 use Rattle.errors.specs.declared.Error.the-variants.{BadHeader}
 use Rattle.header.specs.Checksum.{sumcheck}
 
@@ -70,8 +70,7 @@ firstBroken blocks stored computed at room =
     cond (eqb (blocks .0) 0) (Invalid (BadHeader ZeroLength at))
     (cond (ltb room (bytesOf blocks .0)) (Invalid (BadHeader PastEnd at))
     (cond (not (eqb stored computed)) (Invalid (BadHeader Checksum at))
-    (cond (eqb computed 0) (Invalid (BadHeader ZeroChecksum at))
-    Valid)))
+    Valid))
 
 -- the first rule that a header breaks, where it stands there
 unfoldable pub validityOf : Header → ℕ → ℕ → Validity

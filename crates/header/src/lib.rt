@@ -176,7 +176,7 @@ impl Header {
     }
 }
 
-// The first broken rule in the order 2, 3, 4, 5.
+// The first broken rule in the order 2, 3, 4.
 fn first_broken(blocks: Blocks, stored: u8, computed: u8, at: usize, room: usize) -> Validity
     ensures { λ r. ⌜ r ≡ firstBroken blocks stored computed at room ⌝ }
 {
@@ -193,10 +193,6 @@ fn first_broken(blocks: Blocks, stored: u8, computed: u8, at: usize, room: usize
     }
     if differs {
         let fault = HeaderFault::Checksum;
-        return Validity::Invalid(Error::BadHeader { fault, at });
-    }
-    if computed == 0 {
-        let fault = HeaderFault::ZeroChecksum;
         return Validity::Invalid(Error::BadHeader { fault, at });
     }
     Validity::Valid

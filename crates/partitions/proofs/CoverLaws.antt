@@ -1,9 +1,9 @@
--- Accepted exactly when covered, and refused by each of 1 to 5 exactly when its rule says so.
+-- Accepted exactly when covered, and refused by each of 1 to 4 exactly when its rule says so.
 use Prim.Native.Nat.{ℕ, _+_, _-_, _*_, _<_}
 use mathlib.Core.Path.{_≡_, ap, subst, refl, sym, _∙_}
-use mathlib.Core.Logic.{_↔_}
+use mathlib.Core.Logic.{_≢_, _↔_}
 use mathlib.Core.Bool.{true, false}
-use mathlib.Core.List.{List, [], _∷_}
+use mathlib.Core.List.{List, [], _∷_, _++_}
 use native.Mathlib.Omega.{arith}
 use lib.ListN.{length}
 use borrow.Author.Tests.{eq-eqb, le-leb, eqb-true, leb-true}
@@ -13,15 +13,15 @@ use Rattle.errors.specs.declared.Error.{Error}
 use Rattle.errors.specs.declared.HeaderFault.{HeaderFault}
 use Rattle.errors.specs.declared.Error.the-variants.{BadHeader}
 use Rattle.header.specs.declared.Validity.the-variants.{Valid, Invalid}
-use Rattle.header.specs.Header.{validityAt}
+use Rattle.header.specs.Header.{byteAt, validityAt}
 use Rattle.header.specs.Rules.{Sound, Breaks}
-use Rattle.header.proofs.RuleLaws.{blocks-read, signature-read, valid-exactly, invalid-exactly, sound-valid, breaks-invalid}
+use Rattle.header.proofs.RuleLaws.{blocks-read, signature-read, valid-exactly, invalid-exactly, sound-valid, breaks-invalid, sound-checksum}
 use Rattle.header.proofs.ValidityLaws.{invalid-here}
 use Rattle.partitions.specs.declared.Partition.{Partition}
 use Rattle.partitions.specs.declared.Checked.the-variants.{Accepted as Accepts, Refused as Refuses}
 use Rattle.partitions.specs.Walk.{allowedLength, partitionOf, pastOf, Walk, covered, broken, first, walk}
 use Rattle.partitions.specs.Find.{checkedBy, checkOf}
-use Rattle.partitions.specs.Cover.{LengthRule, partitionAt, pastAt, Cover, here, next, Accepted, PartitionCount, Rejected, one, header}
+use Rattle.partitions.specs.Cover.{LengthRule, partitionAt, pastAt, Cover, here, next, Accepted, PartitionCount, Rejected, one, header, Indexed}
 use Rattle.partitions.proofs.StepLaws.{step-end, step-next, step-broken}
 use Rattle.partitions.proofs.WalkLaws.{rest, rest-next, rest-end, rest-broken, walk-rest, walk-refused, rest-by-steps}
 
@@ -49,6 +49,18 @@ partition-same image at =
 pub past-same : (image : List ℕ) (at : ℕ) → pastOf image at ≡ pastAt image at
 unfolding pastOf pastAt
 past-same image at = ap (λ (n : ℕ). at + n * 16) (blocks-read image at)
+
+-- a partition of a cover has a sound header
+cover-sound : (image : List ℕ) {a b : ℕ} (before : List Partition) (p : Partition) (after : List Partition) → Cover image a b (before ++ p ∷ after)
+    → Sound image (p .offset)
+unfolding partitionAt
+cover-sound image [] p after (next s c) = s
+cover-sound image (q ∷ before) p after (next s c) = cover-sound image before p after c
+
+-- THE CHECKSUM of a partition of an accepted image, whatever its index, is not zero
+pub indexed-checksum : (image : List ℕ) (n : ℕ) (p : Partition) → Indexed image n p → byteAt image (p .offset) 1 ≢ 0
+indexed-checksum image n p i =
+    sound-checksum image (p .offset) (cover-sound image (i .before) p (i .after) (i .accepted .cover))
 
 -- partitions put before what a walk finds
 abbrev pub prepend : List Partition → Walk → Walk

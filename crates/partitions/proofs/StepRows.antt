@@ -7,7 +7,7 @@ use native.Mathlib.Omega.{arith}
 use lib.ListN.{length}
 use Rattle.lists.specs.Bytes.{AllBytes}
 use Rattle.errors.specs.declared.HeaderFault.{HeaderFault}
-use Rattle.errors.specs.declared.HeaderFault.the-variants.{ZeroLength, PastEnd, Checksum, ZeroChecksum}
+use Rattle.errors.specs.declared.HeaderFault.the-variants.{ZeroLength, PastEnd, Checksum}
 use Rattle.errors.specs.declared.Error.the-variants.{BadHeader}
 use Rattle.errors.specs.Errors.{headerCode}
 use Rattle.header.specs.declared.Validity.the-variants.{Invalid}
@@ -19,7 +19,7 @@ use Rattle.partitions.specs.declared.Step.the-variants.{Next, End, Broke
 use Rattle.partitions.specs.declared.StepAnswer.{StepAnswer}
 use Rattle.partitions.specs.Walk.{stepAt, partitionOf, pastOf}
 use Rattle.partitions.specs.Views.{noStep, stepAnswer}
-use Rattle.partitions.specs.Cover.{partitionAt, pastAt, StepRow, shows, ends, step-two, step-three, step-four, step-five}
+use Rattle.partitions.specs.Cover.{partitionAt, pastAt, StepRow, shows, ends, step-two, step-three, step-four}
 use Rattle.partitions.proofs.StepLaws.{step-end, step-next, step-broken}
 use Rattle.partitions.proofs.WalkLaws.{View, ends as at-end, goes, breaks, view}
 use Rattle.partitions.proofs.CoverLaws.{partition-same, past-same}
@@ -40,7 +40,6 @@ module _ (image : List ℕ) (at : ℕ) (bytes : AllBytes image) where
   fault-row l ZeroLength b = step-two l b
   fault-row l PastEnd b = step-three l b
   fault-row l Checksum b = step-four l b
-  fault-row l ZeroChecksum b = step-five l b
 
   step-row : (s : Step) → View image at s → StepRow image at (stepAnswer s)
   step-row End (at-end l) = ends l
@@ -62,7 +61,6 @@ module _ (image : List ℕ) (at : ℕ) (bytes : AllBytes image) where
   row-step (step-two l b) = broken-seen l b
   row-step (step-three l b) = broken-seen l b
   row-step (step-four l b) = broken-seen l b
-  row-step (step-five l b) = broken-seen l b
 
   -- A STEP ANSWERS exactly by its row
   pub step-exactly : (s : StepAnswer) → (stepAnswer (stepAt image at) ≡ s) ↔ StepRow image at s

@@ -4,7 +4,7 @@ use mathlib.Core.Path.{_≡_}
 use mathlib.Core.List.{List, [], _∷_, _++_}
 use lib.ListN.{length, take, drop, replicate}
 use Rattle.errors.specs.declared.HeaderFault.{HeaderFault}
-use Rattle.errors.specs.declared.HeaderFault.the-variants.{ZeroLength, PastEnd, Checksum, ZeroChecksum}
+use Rattle.errors.specs.declared.HeaderFault.the-variants.{ZeroLength, PastEnd, Checksum}
 use Rattle.errors.specs.declared.Error.{Error}
 use Rattle.errors.specs.declared.Error.the-variants.{ImageLength, BadHeader}
 use Rattle.header.specs.Header.{byteAt, nameAt}
@@ -44,7 +44,7 @@ pub record PartitionCount (image : List ℕ) (n : ℕ) : Type 0 where
   pub accepted : Accepted image all
   pub counted : length all ≡ n
 
--- an image refused by 1 to 5: its length breaks the rule, or a cover reaches a header that breaks one
+-- an image refused by 1 to 4: its length breaks the rule, or a cover reaches a header that breaks one
 pub data Rejected (image : List ℕ) : Error → Type 0 where
   one : ¬ (LengthRule (length image)) → Rejected image ImageLength
   header : {a : ℕ} {ps : List Partition} {f : HeaderFault} → LengthRule (length image) → Cover image 0 a ps → a < length image
@@ -111,5 +111,3 @@ pub data StepRow (image : List ℕ) (at : ℕ) : StepAnswer → Type 0 where
       → StepRow image at (record { code = 3; offset = at; header = 0; blocks = 0; signature = 0; next = 0 })
   step-four : at < length image → Breaks image at Checksum
       → StepRow image at (record { code = 4; offset = at; header = 0; blocks = 0; signature = 0; next = 0 })
-  step-five : at < length image → Breaks image at ZeroChecksum
-      → StepRow image at (record { code = 5; offset = at; header = 0; blocks = 0; signature = 0; next = 0 })

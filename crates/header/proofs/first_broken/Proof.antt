@@ -1,7 +1,7 @@
 -- `header::first_broken` meets its contract, test by test.
 use borrow.Author.Needs.{needs}
 use borrow.Author.Tests.{eqb-true, eqb-false, not-true, not-false}
-use Rattle.header.proofs.ValidityLaws.{zero-length, past-end, checksum-differs, checksum-zero, no-rule-broken}
+use Rattle.header.proofs.ValidityLaws.{zero-length, past-end, checksum-differs, no-rule-broken}
 use Rattle.header.proofs.first_broken.Statement.{statement}
 use Rattle.header.proofs.first_broken.Tie as tie
 
@@ -29,19 +29,11 @@ returns-3 c =
 
 returns-4 : tie.Need-returns-4
 returns-4 c =
-    let f = c .before .before in
-    let b = f .before .before in
-    let a = b .before .before .before .args in
-    checksum-zero (a .blocks) (a .stored) (a .computed) (a .at) (a .room) (b .before .if1 .left) (b .bytes .result) (b .bytes .ensures)
-    (f .if2 .left) (eqb-true _ _ (not-false _ (c .before .if3 .left))) (c .if4 .taken)
-
-returns-5 : tie.Need-returns-5
-returns-5 c =
-    let f = c .before .before in
+    let f = c .before in
     let b = f .before .before in
     let a = b .before .before .before .args in
     no-rule-broken (a .blocks) (a .stored) (a .computed) (a .at) (a .room) (b .before .if1 .left) (b .bytes .result) (b .bytes .ensures)
-    (f .if2 .left) (eqb-true _ _ (not-false _ (c .before .if3 .left))) (c .if4 .left)
+    (f .if2 .left) (eqb-true _ _ (not-false _ (c .if3 .left)))
 
 pub first-broken-spec : {M : Type 1} → statement M
-first-broken-spec = tie.close (tie.spec returns bytes-requires returns-2 returns-3 returns-4 returns-5)
+first-broken-spec = tie.close (tie.spec returns bytes-requires returns-2 returns-3 returns-4)
