@@ -26,9 +26,9 @@ extern "C" {
 
 /* The version of this header and of the library. */
 #define NVRAM_VERSION_MAJOR 0
-#define NVRAM_VERSION_MINOR 1
+#define NVRAM_VERSION_MINOR 2
 #define NVRAM_VERSION_PATCH 0
-#define NVRAM_VERSION "0.1.0"
+#define NVRAM_VERSION "0.2.0"
 
 /* Limits, in bytes. */
 #define NVRAM_BLOCK 16                /* a block, and a header */
@@ -40,14 +40,15 @@ extern "C" {
 
 /* Error codes, and the offset that each answers; nvram_error_text says them in
  * words. They are tested in the order 11, 1, the headers from byte 0 with 2 to
- * 5 at each, 6, the area from its first byte with 7 to 10, then 12, 13, 14. */
+ * 4 at each, 6, the area from its first byte with 7 to 10, then 12, 13, 14. */
 enum nvram_code {
     NVRAM_DONE = 0,          /* 0 */
     NVRAM_IMAGE_LENGTH = 1,  /* 0 */
     NVRAM_ZERO_LENGTH = 2,   /* header's offset */
     NVRAM_PAST_END = 3,      /* header's offset */
     NVRAM_CHECKSUM = 4,      /* header's offset */
-    NVRAM_ZERO_CHECKSUM = 5, /* header's offset */
+    /* 5 was for a checksum that agrees and is zero, which no header of a
+     * non-zero length has; the number is not used again. */
     NVRAM_NO_PARTITION = 6,  /* 0 */
     NVRAM_AREA_END = 7,      /* offset just past the area */
     NVRAM_STORED_NAME = 8,   /* offset of the byte */
@@ -73,8 +74,6 @@ static inline const char *nvram_error_text(uint32_t code)
         return "a partition runs past the image's end";
     case NVRAM_CHECKSUM:
         return "a header's stored and computed checksum differ";
-    case NVRAM_ZERO_CHECKSUM:
-        return "a header's stored and computed checksum agree and are zero";
     case NVRAM_NO_PARTITION:
         return "the partition is not found";
     case NVRAM_AREA_END:
@@ -98,7 +97,7 @@ static inline const char *nvram_error_text(uint32_t code)
     }
 }
 
-/* Checks an image: the number of partitions that cover it. Codes 0 to 5. */
+/* Checks an image: the number of partitions that cover it. Codes 0 to 4. */
 uint32_t nvram_check(const uint8_t *image, size_t image_len,
                      size_t *offset, size_t *partitions);
 
@@ -106,23 +105,24 @@ uint32_t nvram_check(const uint8_t *image, size_t image_len,
  * its length in blocks of 16 bytes, header included, and its signature. Its
  * data area is the bytes from header + NVRAM_BLOCK up to
  * header + NVRAM_BLOCK * blocks.
- * Codes 0 to 6. */
+ * Codes 0 to 4 and 6. */
 uint32_t nvram_partition(const uint8_t *image, size_t image_len, size_t index,
                          size_t *offset, size_t *header, size_t *blocks,
                          uint8_t *signature);
 
 /* The first partition of a signature and a name, which is filled with 0x00 to
- * NVRAM_PARTITION_NAME_MAX bytes; a longer one matches none. Codes 0 to 6. */
+ * NVRAM_PARTITION_NAME_MAX bytes; a longer one matches none. Codes 0 to 4 and
+ * 6. */
 uint32_t nvram_find(const uint8_t *image, size_t image_len, uint8_t signature,
                     const uint8_t *name, size_t name_len,
                     size_t *offset, size_t *header, size_t *blocks);
 
-/* The number of variables. Codes 0 to 10. */
+/* The number of variables. Codes 0 to 4 and 6 to 10. */
 uint32_t nvram_count(const uint8_t *image, size_t image_len,
                      size_t *offset, size_t *variables);
 
 /* Reads a variable: its value goes to the start of the buffer, and the bytes
- * after it are kept. Codes 0 to 12 and 14. */
+ * after it are kept. Codes 0 to 4, 6 to 12 and 14. */
 uint32_t nvram_read(const uint8_t *image, size_t image_len,
                     const uint8_t *name, size_t name_len,
                     uint8_t *buffer, size_t buffer_len,
@@ -131,17 +131,17 @@ uint32_t nvram_read(const uint8_t *image, size_t image_len,
 /* Sets a variable: its pair is replaced where it stands, or added after the
  * last. A name has 1 to NVRAM_VARIABLE_NAME_MAX bytes of 0x21 to 0x7E without
  * A to Z and without / \ : [ ] @ =; a value has any bytes, or none. Codes 0 to
- * 11 and 13. */
+ * 4, 6 to 11 and 13. */
 uint32_t nvram_set(uint8_t *image, size_t image_len,
                    const uint8_t *name, size_t name_len,
                    const uint8_t *value, size_t value_len, size_t *offset);
 
-/* Removes a variable; the pairs after it close up. Codes 0 to 12. */
+/* Removes a variable; the pairs after it close up. Codes 0 to 4 and 6 to 12. */
 uint32_t nvram_remove(uint8_t *image, size_t image_len,
                       const uint8_t *name, size_t name_len, size_t *offset);
 
 /* Stores every value in its canonical form, the shortest, and zeroes what
- * follows the pairs. Codes 0 to 10. */
+ * follows the pairs. Codes 0 to 4 and 6 to 10. */
 uint32_t nvram_normalize(uint8_t *image, size_t image_len, size_t *offset);
 
 /* Writes a listing of the partitions to the start of the text buffer; a line

@@ -1,4 +1,4 @@
-/* Holds each limit of nvram.h to the library: done at the limit, refused one past it. */
+/* Holds each limit of nvram.h to the library: done at the limit, refused one past it; and the texts of its codes. */
 #include <stdio.h>
 #include <string.h>
 
@@ -75,13 +75,25 @@ static void variables(void)
          NVRAM_BAD_NAME);
 }
 
+/* Each code of the table has a text, and no other number has one. */
+static void codes(void)
+{
+    char label[32];
+    uint32_t code;
+    for (code = 0; code < 256; code++) {
+        sprintf(label, "the text of %lu", (unsigned long)code);
+        want(label, strcmp(nvram_error_text(code), "unknown code") != 0,
+             code <= NVRAM_CHECKSUM || (code >= NVRAM_NO_PARTITION && code <= NVRAM_SHORT_BUFFER));
+    }
+    want("the text of no code", strcmp(nvram_error_text(0xFFFFFFFF), "unknown code") == 0, 1);
+}
+
 /* The version's text is its three numbers. */
 static void version(void)
 {
     char made[32];
     sprintf(made, "%d.%d.%d", NVRAM_VERSION_MAJOR, NVRAM_VERSION_MINOR, NVRAM_VERSION_PATCH);
     want("NVRAM_VERSION", strcmp(made, NVRAM_VERSION) == 0, 1);
-    want("the text of no code", strcmp(nvram_error_text(0xFFFFFFFF), "unknown code") == 0, 1);
 }
 
 int main(void)
@@ -89,6 +101,7 @@ int main(void)
     partitions();
     listing();
     variables();
+    codes();
     version();
     return failures != 0;
 }

@@ -47,7 +47,6 @@ codes! {
     2 ZeroLength "a partition's length field is zero",
     3 PastEnd "a partition runs past the image's end",
     4 Checksum "a header's stored and computed checksum differ",
-    5 ZeroChecksum "a header's stored and computed checksum agree and are zero",
     6 NoPartition "the partition is not found",
     7 AreaEnd "the area ends inside a pair, or where a pair or the end should begin",
     8 StoredName "a stored name breaks the name rule",
@@ -94,7 +93,12 @@ mod tests {
             assert_eq!(Code::from_number(number).number(), number);
         }
         assert_eq!(Code::from_number(4), Code::Checksum);
-        assert_eq!(Code::from_number(0), Code::Unknown(0));
+    }
+
+    #[test]
+    fn numbers_of_the_table_are_known_and_no_other() {
+        let known = |&number: &u32| !matches!(Code::from_number(number), Code::Unknown(_));
+        assert!((0..1_000).filter(known).eq((1..=4).chain(6..=14)));
     }
 
     #[test]

@@ -15,7 +15,7 @@ use rng::Rng;
 use std::panic::{catch_unwind, AssertUnwindSafe};
 use std::path::PathBuf;
 use std::process::ExitCode;
-use tally::Tally;
+use tally::{Tally, CODES};
 
 const USAGE: &str = "usage: compare [--samples DIR] [--case NAME] [--seed S] [--quick]";
 
@@ -115,11 +115,11 @@ fn run(options: &Options, case: &Case, tally: &mut Tally) -> bool {
     outcome.is_ok()
 }
 
-/// Fails if a code that a caller can see was not met, or was met at few offsets.
+/// Fails if a code of the table was not met or was met at few offsets, or if another code was met.
 fn every_code(tally: &Tally) -> bool {
     let lacking = tally.lacking();
     match &lacking {
-        None => println!("ok   compare: {CODES_CASE} (15 comparisons)"),
+        None => println!("ok   compare: {CODES_CASE} ({} comparisons)", CODES.len()),
         Some(text) => println!("FAIL compare: {CODES_CASE}\n{text}"),
     }
     lacking.is_none()

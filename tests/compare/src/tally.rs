@@ -1,9 +1,9 @@
 //! How often the library answered each code, and at how many offsets.
 
-use std::collections::HashSet;
+use std::collections::{BTreeSet, HashSet};
 
-/// The codes from 0 to 14.
-const CODES: usize = 15;
+/// The codes that the library may answer.
+pub const CODES: [u32; 14] = [0, 1, 2, 3, 4, 6, 7, 8, 9, 10, 11, 12, 13, 14];
 
 /// The codes whose offset is that of a header or of a byte in a data area.
 const WITH_OFFSET: [u32; 7] = [2, 3, 4, 7, 8, 9, 10];
@@ -14,15 +14,19 @@ const FEWEST_OFFSETS: usize = 40;
 /// The counts of one case or of a whole run.
 #[derive(Default)]
 pub struct Tally {
-    codes: [u64; CODES],
+    codes: [u64; CODES.len()],
+    others: BTreeSet<u32>,
     offsets: HashSet<(u32, usize)>,
 }
 
 impl Tally {
     /// Counts an answer of the library.
     pub fn add(&mut self, code: u32, offset: usize) {
-        if let Some(count) = self.codes.get_mut(code as usize) {
-            *count += 1;
+        match CODES.iter().position(|&known| known == code) {
+            Some(place) => self.codes[place] += 1,
+            None => {
+                self.others.insert(code);
+            }
         }
         if WITH_OFFSET.contains(&code) {
             self.offsets.insert((code, offset));
@@ -34,7 +38,13 @@ impl Tally {
         for (sum, count) in self.codes.iter_mut().zip(other.codes) {
             *sum += count;
         }
+        self.others.extend(other.others);
         self.offsets.extend(other.offsets);
+    }
+
+    /// Each code with the number of answers that had it.
+    fn counts(&self) -> impl Iterator<Item = (u32, u64)> + '_ {
+        CODES.into_iter().zip(self.codes)
     }
 
     /// The number of different offsets a code was met at.
@@ -42,24 +52,26 @@ impl Tally {
         self.offsets.iter().filter(|seen| seen.0 == code).count()
     }
 
-    /// The codes that a run lacks, or nothing; 5 cannot be seen since 2 comes first.
+    /// The codes that a run lacks or should not have, or nothing.
     pub fn lacking(&self) -> Option<String> {
-        let unmet = |&code: &usize| (self.codes[code] == 0) != (code == 5);
-        let unmet: Vec<usize> = (0..CODES).filter(unmet).collect();
+        let unmet = self.counts().filter(|(_, count)| *count == 0);
+        let unmet: Vec<u32> = unmet.map(|(code, _)| code).collect();
         let few = |code: &u32| self.offsets_of(*code) < FEWEST_OFFSETS;
         let few: Vec<u32> = WITH_OFFSET.into_iter().filter(few).collect();
-        if unmet.is_empty() && few.is_empty() {
+        if unmet.is_empty() && few.is_empty() && self.others.is_empty() {
             return None;
         }
         Some(format!(
-            "  not met, or 5 met: {unmet:?}; met at few offsets: {few:?}"
+            "  not met: {unmet:?}; met at few offsets: {few:?}; no code of the table: {:?}",
+            self.others
         ))
     }
 
     /// One line with the counts of all codes and one with the numbers of offsets.
     pub fn lines(&self) -> String {
-        let codes: Vec<String> = (0..CODES)
-            .map(|code| format!("{code}: {}", self.codes[code]))
+        let codes: Vec<String> = self
+            .counts()
+            .map(|(code, count)| format!("{code}: {count}"))
             .collect();
         let offsets: Vec<String> = WITH_OFFSET
             .map(|code| format!("{code}: {}", self.offsets_of(code)))

@@ -91,8 +91,6 @@ fn parse_header(image: &[u8], offset: usize) -> Result<Partition, Refusal> {
         Err(Refusal::at(3, offset))
     } else if bytes[1] != computed {
         Err(Refusal::at(4, offset))
-    } else if computed == 0 {
-        Err(Refusal::at(5, offset))
     } else {
         Ok(partition)
     }

@@ -15,7 +15,7 @@ pub use listing::listing;
 use area::Pair;
 use std::ops::Range;
 
-/// An error code from 1 to 14 with the offset answered beside it.
+/// An error code of the table with the offset answered beside it.
 #[derive(Debug, Clone, Copy, PartialEq, Eq)]
 pub struct Refusal {
     pub code: u32,

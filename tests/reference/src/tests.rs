@@ -89,6 +89,12 @@ fn example_5_first_partition_alone() {
 }
 
 #[test]
+fn checksum_of_zero_needs_a_length_of_zero() {
+    assert_eq!(check(&[0; 16]), Err(Refusal::at(2, 0)));
+    assert!((1..=u16::MAX).all(|length| checksum(0, length, &[0; 12]) != 0));
+}
+
+#[test]
 fn examples_6_and_7_sets() {
     let mut image = base();
     assert_eq!(set(&mut image, b"b", &[0, 0, 0xFF]), Ok(()));
