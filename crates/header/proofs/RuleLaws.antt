@@ -98,14 +98,6 @@ module _ (image : List ℕ) (at : ℕ) where
     unfolding checksumAt
     sum-read = ap sumcheck covered-read ∙ closed-form _ (byte 0, (byte 2, (byte 3, name-bytes)))
 
-    -- A TEST MORE, for a checksum of zero, changes nothing at any offset of any image, whatever it answers
-    pub zero-test-idle-at : (v : Validity) → withZeroTest (headerAt image at) at (length image - at) v ≡ validityAt image at
-    unfolding headerAt validityAt
-    zero-test-idle-at v =
-        let b2 = byte 2 in
-        let b3 = byte 3 in
-        zero-test-idle (headerAt image at) (byte 0) name-bytes (omega arith) at (length image - at) v
-
     -- the same of what the code has read of a whole header
     pub checksum-whole : at + 16 ≤ length image → (n s r : ℕ) (l : Blocks) → n ≡ sum (take (at + 16 - (at + 4)) (drop (at + 4) image))
         → s ≡ headerAt image at .signature → l ≡ headerAt image at .length
@@ -114,6 +106,14 @@ module _ (image : List ℕ) (at : ℕ) where
     checksum-whole h n s r l en es el er =
         sum-covered (headerAt image at) (byte 0) name-bytes name-length n s r (en ∙ name-sum image at h) es
         (er ∙ (λ i. fold (fold (n + s + el i .0 / 256 % 256 + el i .0 % 256))))
+
+    -- A TEST MORE, for a checksum of zero, changes nothing at any offset of any image, whatever it answers
+    pub zero-test-idle-at : (v : Validity) → withZeroTest (headerAt image at) at (length image - at) v ≡ validityAt image at
+    unfolding headerAt validityAt
+    zero-test-idle-at v =
+        let b2 = byte 2 in
+        let b3 = byte 3 in
+        zero-test-idle (headerAt image at) (byte 0) name-bytes (omega arith) at (length image - at) v
 
     module _ (z : blocksAt image at ≢ 0) where
       nonzero : headerAt image at .length .0 ≢ 0
