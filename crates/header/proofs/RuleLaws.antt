@@ -22,7 +22,7 @@ use Rattle.header.specs.Header.{byteAt, nameAt, headerAt, bytesOf, cover
 use Rattle.header.specs.Rules.{blocksAt, checksumAt, Sound, Breaks, two, three, four, HeaderRow, is-sound, is-two, is-three, is-four}
 use Rattle.header.proofs.SumLaws.{name-sum}
 use Rattle.header.proofs.ChecksumLaws.{closed-form, closed-zeros, sum-covered}
-use Rattle.header.proofs.ValidityLaws.{zero-length, past-end, checksum-differs, no-rule-broken, cut-off, withZeroTest, zero-test-idle}
+use Rattle.header.proofs.ValidityLaws.{zero-length, past-end, checksum-differs, no-rule-broken, cut-off, zeroTest, zero-test-idle}
 
 module _ (image : List ℕ) (at : ℕ) where
   pub blocks-read : headerAt image at .length .0 ≡ blocksAt image at
@@ -107,13 +107,13 @@ module _ (image : List ℕ) (at : ℕ) where
         sum-covered (headerAt image at) (byte 0) name-bytes name-length n s r (en ∙ name-sum image at h) es
         (er ∙ (λ i. fold (fold (n + s + el i .0 / 256 % 256 + el i .0 % 256))))
 
-    -- A TEST MORE, for a checksum of zero, changes nothing at any offset of any image, whatever it answers
-    pub zero-test-idle-at : (v : Validity) → withZeroTest (headerAt image at) at (length image - at) v ≡ validityAt image at
+    -- A TEST MORE, for a checksum of zero, changes nothing at any offset of any image, whatever it would answer
+    pub zero-test-idle-at : (v : Validity) → zeroTest (validityAt image at) (checksumAt image at) v ≡ validityAt image at
     unfolding headerAt validityAt
     zero-test-idle-at v =
         let b2 = byte 2 in
         let b3 = byte 3 in
-        zero-test-idle (headerAt image at) (byte 0) name-bytes (omega arith) at (length image - at) v
+        rw (← sum-read) (zero-test-idle (headerAt image at) (byte 0) name-bytes (omega arith) at (length image - at) v)
 
     module _ (z : blocksAt image at ≢ 0) where
       nonzero : headerAt image at .length .0 ≢ 0

@@ -10,7 +10,7 @@ use lib.ListN.{length as len}
 use lib.Dec.{leb, ltb, eqb}
 use borrow.Author.Tests.{eq-eqb, ne-eqb, lt-ltb, le-ltb, le-leb, lt-leb, eqb-false, ltb-false}
 use Rattle.lists.specs.Bytes.{AllBytes}
-use Rattle.lists.proofs.Tests.{split, clash}
+use Rattle.lists.proofs.Tests.{clash}
 use Rattle.header.specs.declared.Blocks.{Blocks}
 use Rattle.header.specs.declared.Bytes.{Bytes}
 use Rattle.header.specs.declared.Header.{Header}
@@ -50,22 +50,6 @@ pub check-read : (h : Header) (at room s : ℕ) (r : Validity) → s ≡ sumchec
     → r ≡ validityOf h at room
 unfolding validityOf
 check-read h at room s r es e = e ∙ (λ i. firstBroken (h .length) (h .checksum) (es i) at room)
-
--- the first broken rule with a test more behind the others, for a checksum of zero, which answers v
-abbrev pub withZeroTest : Header → ℕ → ℕ → Validity → Validity
-withZeroTest h at room v =
-    cond (eqb (h .length .0) 0) (Invalid (BadHeader ZeroLength at))
-    (cond (ltb room (bytesOf (h .length) .0)) (Invalid (BadHeader PastEnd at))
-    (cond (not (eqb (h .checksum) (sumcheck (coveredBytes h)))) (Invalid (BadHeader Checksum at))
-    (cond (eqb (sumcheck (coveredBytes h)) 0) v
-    Valid)))
-
--- THAT TEST CHANGES NOTHING for a header of at most 65,535 blocks, whatever it answers
-pub zero-test-idle : (h : Header) → h .signature < 256 → AllBytes (h .name) → h .length .0 ≤ 65535 → (at room : ℕ) (v : Validity)
-    → withZeroTest h at room v ≡ validityOf h at room
-unfolding validityOf
-zero-test-idle h l a m at room v =
-    split (eqb (h .length .0) 0) (λ t. rw t) (λ f. rw (ne-eqb _ _ (header-nonzero h l a (eqb-false _ _ f) m)))
 
 -- a header that is cut off breaks 2 or 3, whatever its checksum
 pub cut-off : (blocks : Blocks) (s c t d at room : ℕ) → room < 16 → firstBroken blocks s c at room ≡ firstBroken blocks t d at room
@@ -128,16 +112,37 @@ valid-tests true b w x v e = clash (cc)
 valid-tests false true w x v e = clash (cc)
 valid-tests false false w x v e = (refl, refl)
 
-module _ (image : List ℕ) (at : ℕ) (e : validityAt image at ≡ Valid) where
-  abbrev here : Header
-  here = headerAt image at
-
-  tests : (eqb (here .length .0) 0 ≡ false) × (ltb (len image - at) (bytesOf (here .length) .0) ≡ false)
-  unfolding validityAt validityOf
+module _ (h : Header) (at room : ℕ) (e : validityOf h at room ≡ Valid) where
+  tests : (eqb (h .length .0) 0 ≡ false) × (ltb room (bytesOf (h .length) .0) ≡ false)
+  unfolding validityOf
   tests = valid-tests _ _ (BadHeader ZeroLength at) (BadHeader PastEnd at) _ e
 
-  pub valid-nonzero : here .length .0 ≢ 0
-  valid-nonzero = eqb-false _ _ (tests .0)
+  nonzero : h .length .0 ≢ 0
+  nonzero = eqb-false _ _ (tests .0)
 
-  pub valid-fits : bytesOf (here .length) .0 ≤ len image - at
-  valid-fits = ltb-false _ _ (tests .1)
+  fitting : bytesOf (h .length) .0 ≤ room
+  fitting = ltb-false _ _ (tests .1)
+
+-- the same of the header at an offset of an image
+module _ (image : List ℕ) (at : ℕ) (e : validityAt image at ≡ Valid) where
+  pub valid-nonzero : headerAt image at .length .0 ≢ 0
+  unfolding validityAt
+  valid-nonzero = nonzero (headerAt image at) at (len image - at) e
+
+  pub valid-fits : bytesOf (headerAt image at .length) .0 ≤ len image - at
+  unfolding validityAt
+  valid-fits = fitting (headerAt image at) at (len image - at) e
+
+-- an answer after a test more behind the others, which would answer v where the computed checksum is zero
+abbrev pub zeroTest : Validity → ℕ → Validity → Validity
+zeroTest Valid computed v = cond (eqb computed 0) v Valid
+zeroTest (Invalid e) computed v = Invalid e
+
+-- THAT TEST CHANGES NOTHING for a header of at most 65,535 blocks, whatever it would answer
+pub zero-test-idle : (h : Header) → h .signature < 256 → AllBytes (h .name) → h .length .0 ≤ 65535 → (at room : ℕ) (v : Validity)
+    → zeroTest (validityOf h at room) (sumcheck (coveredBytes h)) v ≡ validityOf h at room
+zero-test-idle h l a m at room v = go (validityOf h at room) refl
+  where
+    go : (w : Validity) → validityOf h at room ≡ w → zeroTest w (sumcheck (coveredBytes h)) v ≡ w
+    go Valid e = rw (ne-eqb _ _ (header-nonzero h l a (nonzero h at room e) m))
+    go (Invalid x) e = refl
