@@ -1,30 +1,31 @@
--- Laws of `allowedAhead`: what stands at the first byte that a name may not hold, and before it; and the turns of the loop that looks for it.
+-- Laws of `allowedAhead`: what stands at the first byte that a name may not hold, and before it; the turns of the loop that looks for it; and the check of a name by it.
 use Prim.Native.Nat.{ℕ, zero, suc, _+_, _-_, _<_, _≤_}
 use mathlib.Core.Path.{_≡_, refl, sym, ap, subst, _∙_}
-use mathlib.Core.Bool.{true, false}
+use mathlib.Core.Bool.{Bool, true, false}
 use mathlib.Core.List.{List, [], _∷_}
+use mathlib.Core.Logic.{_≢_}
 use native.Mathlib.Omega.{arith}
-use lib.Dec.{eqb}
+use lib.Dec.{leb, ltb, eqb}
 use lib.ListN.{length, getD, drop, length-drop, drop-of-length-le}
 use lib.Seq.{getD-drop}
-use borrow.Author.Tests.{eq-eqb, ne-eqb}
-use Rattle.lists.proofs.Tests.{split}
+use borrow.Author.Tests.{eq-eqb, ne-eqb, eqb-true, eqb-false, lt-ltb, le-ltb, ltb-true, ltb-false, leb-true, leb-false}
+use Rattle.lists.proofs.Tests.{split, clash}
 use Rattle.lists.proofs.ListLaws.{drop-next}
 use Rattle.names.specs.declared.NameCheck.the-variants.{Good, Wrong}
 use Rattle.names.specs.Name.{nameByte, nameCheck}
-use Rattle.names.specs.Helpers.{allowedAhead}
+use Rattle.names.specs.Helpers.{allowedAhead, checkAllowed}
 use Rattle.names.proofs.Marks.{marks, marked}
 use Rattle.names.proofs.NameLaws.{Checked, checked-none, checked-next, checked-long, checked-refused, checked-empty, checked-all}
 
-ahead-none : allowedAhead [] ≡ 0
+pub ahead-none : allowedAhead [] ≡ 0
 unfolding allowedAhead
 ahead-none = refl
 
-ahead-here : (b : ℕ) (bs : List ℕ) → nameByte b ≡ false → allowedAhead (b ∷ bs) ≡ 0
+pub ahead-here : (b : ℕ) (bs : List ℕ) → nameByte b ≡ false → allowedAhead (b ∷ bs) ≡ 0
 unfolding allowedAhead
 ahead-here b bs e = rw (e, allowedAhead)
 
-ahead-next : (b : ℕ) (bs : List ℕ) → nameByte b ≡ true → allowedAhead (b ∷ bs) ≡ suc (allowedAhead bs)
+pub ahead-next : (b : ℕ) (bs : List ℕ) → nameByte b ≡ true → allowedAhead (b ∷ bs) ≡ suc (allowedAhead bs)
 unfolding allowedAhead
 ahead-next b bs e = rw (e, allowedAhead)
 
@@ -101,15 +102,78 @@ checked-skip name (suc n) h l =
     subst (Checked name) e
     (checked-next (checked-skip name n (omega arith) (omega arith)) (omega (arith, ahead-short name)) (omega arith) (ahead-before name n (omega arith)))
 
-module _ (name : List ℕ) (r : ℕ) (e : r ≡ 0 + allowedAhead name) where
-  pub check-31 : 31 < r → Wrong 31 ≡ nameCheck name
+module _ (name : List ℕ) (n : ℕ) (e : n ≡ allowedAhead name) where
+  check-31 : 31 < n → Wrong 31 ≡ nameCheck name
   check-31 h = checked-long (checked-skip name 31 (omega arith) (omega arith)) (omega (arith, ahead-short name)) refl
 
-  pub check-there : r ≤ 31 → r < length name → Wrong r ≡ nameCheck name
-  check-there h l = checked-refused (checked-skip name r (omega arith) h) l (end-there name 0 e l)
+  check-there : n ≤ 31 → n < length name → Wrong n ≡ nameCheck name
+  check-there h l = checked-refused (checked-skip name n (omega arith) h) l (ap (λ (m : ℕ). nameByte (getD name m 0)) e ∙ ahead-there name (omega arith))
 
-  pub check-none : r ≤ 31 → length name ≤ r → r ≡ 0 → Wrong 0 ≡ nameCheck name
-  check-none h l z = checked-empty (checked-skip name r (omega arith) h) l z
+  check-empty : n ≤ 31 → length name ≤ n → n ≡ 0 → Wrong 0 ≡ nameCheck name
+  check-empty h l z = checked-empty (checked-skip name n (omega arith) h) l z
 
-  pub check-kept : r ≤ 31 → length name ≤ r → (r ≡ 0 → ⊥) → Good ≡ nameCheck name
-  check-kept h l z = checked-all (checked-skip name r (omega arith) h) l z
+  check-kept : n ≤ 31 → length name ≤ n → n ≢ 0 → Good ≡ nameCheck name
+  check-kept h l z = checked-all (checked-skip name n (omega arith) h) l z
+
+-- ---- the check by the allowed bytes at a name's start
+
+module _ (n : ℕ) (whole : Bool) where
+  pub allowed-long : 31 < n → Wrong 31 ≡ checkAllowed n whole
+  unfolding checkAllowed
+  allowed-long h = rw (lt-ltb 31 n h)
+
+  module _ (h : n ≤ 31) where
+    pub allowed-none : n ≡ 0 → Wrong 0 ≡ checkAllowed n whole
+    unfolding checkAllowed
+    allowed-none z = rw (le-ltb 31 n h, eq-eqb n 0 z)
+
+    pub allowed-whole : n ≢ 0 → whole ≡ true → Good ≡ checkAllowed n whole
+    unfolding checkAllowed
+    allowed-whole z t = rw (le-ltb 31 n h, ne-eqb n 0 z, t)
+
+    pub allowed-part : n ≢ 0 → whole ≡ false → Wrong n ≡ checkAllowed n whole
+    unfolding checkAllowed
+    allowed-part z t = rw (le-ltb 31 n h, ne-eqb n 0 z, t)
+
+-- THE CHECK OF A NAME by the allowed bytes at its start, and whether it has others
+pub check-by-allowed : (name : List ℕ) (n : ℕ) (whole : Bool) → n ≡ allowedAhead name
+    → (whole ≡ true → length name ≤ n) → (whole ≡ false → n < length name) → checkAllowed n whole ≡ nameCheck name
+check-by-allowed name n whole e f g =
+    split (ltb 31 n)
+    (λ t. sym (allowed-long n whole (ltb-true 31 n t)) ∙ check-31 name n e (ltb-true 31 n t))
+    (λ t. let h = ltb-false 31 n t in
+    split (eqb n 0) (λ u. sym (allowed-none n whole h (eqb-true n 0 u)) ∙ none h (eqb-true n 0 u)) (λ u. some h (eqb-false n 0 u)))
+  where
+    none : n ≤ 31 → n ≡ 0 → Wrong 0 ≡ nameCheck name
+    none h z =
+        split whole
+        (λ t. check-empty name n e h (f t) z)
+        (λ t. ap Wrong (sym z) ∙ check-there name n e h (g t))
+
+    some : n ≤ 31 → n ≢ 0 → checkAllowed n whole ≡ nameCheck name
+    some h z =
+        split whole
+        (λ t. sym (allowed-whole n whole h z t) ∙ check-kept name n e h (f t) z)
+        (λ t. sym (allowed-part n whole h z t) ∙ check-there name n e h (g t))
+
+-- so of a name whose bytes are looked at from the first
+pub check-whole : (name : List ℕ) (n : ℕ) → n ≡ 0 + allowedAhead name → checkAllowed n (leb (length name) n) ≡ nameCheck name
+check-whole name n e = check-by-allowed name n (leb (length name) n) (omega arith) (leb-true (length name) n) (leb-false (length name) n)
+
+-- only a name that has no other byte is good
+pub allowed-good : (n : ℕ) (whole : Bool) → Good ≡ checkAllowed n whole → whole ≡ true
+unfolding checkAllowed
+allowed-good n true e = refl
+allowed-good n false e = split (ltb 31 n) (λ t. clash (cc)) (λ t. split (eqb n 0) (λ u. clash (cc)) (λ u. clash (cc)))
+
+-- an index that is answered is that of an allowed byte or of the one after them
+pub allowed-index : (n : ℕ) (whole : Bool) (at : ℕ) → Wrong at ≡ checkAllowed n whole → at ≤ n
+allowed-index n whole at e =
+    split (ltb 31 n)
+    (λ t. let q = e ∙ sym (allowed-long n whole (ltb-true 31 n t)) in let p : at ≡ 31 = cc in omega (arith, ltb-true 31 n t))
+    (λ t. let h = ltb-false 31 n t in
+    split (eqb n 0)
+    (λ u. let q = e ∙ sym (allowed-none n whole h (eqb-true n 0 u)) in let p : at ≡ 0 = cc in omega arith)
+    (λ u. split whole
+    (λ v. let q = e ∙ sym (allowed-whole n whole h (eqb-false n 0 u) v) in clash (cc))
+    (λ v. let q = e ∙ sym (allowed-part n whole h (eqb-false n 0 u) v) in let p : at ≡ n = cc in omega arith)))

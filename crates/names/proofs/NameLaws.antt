@@ -219,6 +219,23 @@ pub check-wrong-exactly : (name : List ℕ) (i : ℕ) → (nameCheck name ≡ Wr
 unfolding nameCheck
 check-wrong-exactly name i = (λ e. first-wrong name i (breaks-from 0 name i (omega arith) e), wrong-first name i)
 
+-- A NAME IS WRONG SOMEWHERE exactly when it breaks the rule
+pub wrong-exactly : (name : List ℕ) → ((i : ℕ) × FirstWrong name i) ↔ (¬ (NameRule name))
+wrong-exactly name = (
+  λ w. check-wrong (check-wrong-exactly name (w .0) .1 (w .1)),
+  λ n. split-check (nameCheck name) (λ e. absurd (n (check-good-exactly name .0 e))) (λ i e. (i, check-wrong-exactly name i .0 e)),
+)
+
+-- AND AT ONE INDEX
+pub wrong-once : {name : List ℕ} {i j : ℕ} → FirstWrong name i → FirstWrong name j → i ≡ j
+wrong-once {name} {i} {j} v w =
+    let e : Wrong i ≡ Wrong j = sym (check-wrong-exactly name i .1 v) ∙ check-wrong-exactly name j .1 w in
+    cc
+
+pub wrong-most : {name : List ℕ} {i : ℕ} → FirstWrong name i → i ≤ 31
+wrong-most (empty e f) = omega arith
+wrong-most (byte h l before q) = l
+
 -- ---- the loop: the bytes before i are checked
 
 pub record Checked (name : List ℕ) (i : ℕ) : Type 0 where

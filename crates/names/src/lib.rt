@@ -3,7 +3,7 @@ ghost use mathlib.Core.Path.{_≡_};
 ghost use Prim.Native.Nat.{_+_, _<_};
 ghost use lib.ListN.{drop};
 ghost use Rattle.names.specs.Name.{nameByte, nameCheck};
-ghost use Rattle.names.specs.Helpers.{allowedAhead};
+ghost use Rattle.names.specs.Helpers.{allowedAhead, checkAllowed};
 
 // What the check of a name finds.
 pub enum NameCheck {
@@ -304,19 +304,26 @@ pub fn name_end(s: &[u8], from: usize) -> usize
     i
 }
 
+// The check of a name by the allowed bytes at its start; `whole`: it has no other byte.
+pub fn check_allowed(allowed: usize, whole: bool) -> NameCheck
+    ensures { λ r. ⌜ r ≡ checkAllowed allowed whole ⌝ }
+{
+    if 31 < allowed {
+        return NameCheck::Wrong { at: 31 };
+    }
+    if allowed == 0 {
+        return NameCheck::Wrong { at: 0 };
+    }
+    if whole {
+        return NameCheck::Good;
+    }
+    NameCheck::Wrong { at: allowed }
+}
+
 // Whether a name keeps the rule, and if not, where it breaks it first.
 pub fn check(name: &[u8]) -> NameCheck
     ensures { λ r. ⌜ r ≡ nameCheck (now (name .entry)) ⌝ }
 {
     let end = name_end(name, 0);
-    if 31 < end {
-        return NameCheck::Wrong { at: 31 };
-    }
-    if end < name.len() {
-        return NameCheck::Wrong { at: end };
-    }
-    if end == 0 {
-        return NameCheck::Wrong { at: 0 };
-    }
-    NameCheck::Good
+    check_allowed(end, name.len() <= end)
 }

@@ -10,13 +10,13 @@ use Rattle.lists.specs.Bytes.{AllBytes, sameBytes, stands}
 use Rattle.lists.proofs.Tests.{split, clash}
 use Rattle.errors.specs.declared.AreaFault.{AreaFault}
 use Rattle.errors.specs.declared.AreaFault.the-variants.{AreaEnd, StoredName, Escape, Repeated}
-use Rattle.names.specs.Rules.{NameRule}
+use Rattle.names.specs.Rules.{NameRule, FirstWrong, empty, byte}
 use Rattle.values.specs.Value.{spelled, decode}
 use Rattle.values.specs.Rules.{Spells}
 use Rattle.values.proofs.DecodeLaws.{spells-exactly, spells-spelled}
 use Rattle.pairs.specs.Scan.{Stand, cut, wrongName, wrongEscape}
 use Rattle.pairs.specs.Area.{Pair, pairOf, pairsBytes, Parse, faulty, firstPair, onStand, parseFrom, parse}
-use Rattle.pairs.specs.Rules.{Entry, In, sizes, CutOff, in-name, in-value, in-escape, FaultAt, seven, eight, nine, ten, Faulty}
+use Rattle.pairs.specs.Rules.{Entry, In, sizes, UpToEquals, ended, unended, CutOff, in-name, in-value, in-escape, FaultAt, seven, eight, nine, ten, Faulty}
 use Rattle.pairs.proofs.ScanLaws.{Standing, a-pair, the-end, cut-name, cut-value, cut-escape, a-wrong-name, a-wrong-escape, standing}
 use Rattle.pairs.proofs.ParseLaws.{Good, none, more, length-whole, length-pairs, pair-front, parseRest}
 use Rattle.pairs.proofs.ParseLaws.{parse-start, parse-standing, parse-pair, first-faulty, every-left, every-right}
@@ -90,7 +90,7 @@ module _ (past : ℕ) (es : List Entry) (seen : List (List ℕ)) where
   fault-parses : {rest : List ℕ} {f : AreaFault} {at : ℕ} → ((x : List ℕ) → In x es → stands x seen ≡ true) → FaultAt past es rest f at
       → parseRest seen (sizes es) past rest ≡ faulty f at
   fault-parses k (seven c) = cut-parses c
-  fault-parses k (eight rest a h w z) = parse-standing seen (sizes es) past (a-wrong-name rest a h w z)
+  fault-parses k (eight z u w) = parse-standing seen (sizes es) past (a-wrong-name z u w)
   fault-parses k (nine {stored = stored} rest n v w) = parse-standing seen (sizes es) past (a-wrong-escape stored rest n (spells-spelled v) w)
   fault-parses k (ten {name = name} rest n v i) =
       let t : stands name seen ≡ true = k name i in
@@ -160,7 +160,7 @@ module _ (past : ℕ) (seen : List (List ℕ)) (at : ℕ) where
   stopped-on f j go (cut-name a h) q k = stopped-here q (at-end (cut-name a h))
   stopped-on f j go (cut-value stored n v) q k = stopped-here q (at-end (cut-value stored n v))
   stopped-on f j go (cut-escape stored n v) q k = stopped-here q (at-end (cut-escape stored n v))
-  stopped-on f j go (a-wrong-name rest a h w z) q k = stopped-here q (at-name (a-wrong-name rest a h w z))
+  stopped-on f j go (a-wrong-name z u w) q k = stopped-here q (at-name (a-wrong-name z u w))
   stopped-on f j go (a-wrong-escape stored rest n v w) q k = stopped-here q (at-escape (a-wrong-escape stored rest n v w))
 
 stopped : (fuel : ℕ) (seen : List (List ℕ)) (at past : ℕ) (s : List ℕ) (f : AreaFault) (k : ℕ) → length s < fuel
@@ -188,7 +188,7 @@ standing-cut-off b (cut-escape {name = name} stored n v) = in-escape n (spelled-
 
 module _ {past : ℕ} (es : List Entry) where
   name-fault : {rest : List ℕ} {k : ℕ} → Standing rest (wrongName k) → FaultAt past es rest StoredName (sizes es + k)
-  name-fault (a-wrong-name rest a h w z) = eight rest a h w z
+  name-fault (a-wrong-name z u w) = eight z u w
 
   escape-fault : {rest : List ℕ} {k : ℕ} → AllBytes rest → Standing rest (wrongEscape k) → FaultAt past es rest Escape (sizes es + k)
   escape-fault b (a-wrong-escape {c = c} {name = name} stored rest n v w) =
@@ -223,8 +223,16 @@ faulty-exactly area f at b = (parses-faulty area f at b, faulty-parses area f at
 
 -- ---- a fault's offset stands in the area
 
+up-short : {name bs : List ℕ} → UpToEquals name bs → length name ≤ length bs
+up-short (ended {name = name} rest a) = omega (arith, length-append name (0x3D ∷ rest))
+up-short (unended a) = omega arith
+
+first-inside : {name : List ℕ} {i : ℕ} → FirstWrong name i → i ≤ length name
+first-inside (empty e f) = omega arith
+first-inside (byte h l before q) = omega arith
+
 name-inside : {rest : List ℕ} {k : ℕ} → Standing rest (wrongName k) → k ≤ length rest
-name-inside (a-wrong-name {b = b} {begun = begun} rest a h w z) = omega (arith, length-append begun (b ∷ rest))
+name-inside (a-wrong-name z u w) = omega (arith, up-short u, first-inside w)
 
 escape-inside : {rest : List ℕ} {k : ℕ} → Standing rest (wrongEscape k) → k ≤ length rest
 escape-inside (a-wrong-escape {c = c} {name = name} stored rest n v w) =

@@ -1,25 +1,25 @@
 -- Laws of what stands at an offset: the pieces of a pair, and the code's answer by its two scans.
 use Prim.Native.Nat.{ℕ, _+_, _<_, _≤_}
 use mathlib.Core.Path.{_≡_, refl, sym, ap, _∙_, subst}
-use mathlib.Core.Bool.{Bool, true, false, _&&_, _||_}
+use mathlib.Core.Bool.{Bool, true, false, _||_}
 use mathlib.Core.List.{List, [], _∷_, _++_, append-assoc}
 use native.Mathlib.Omega.{arith}
-use lib.Dec.{ltb, eqb}
+use lib.Dec.{eqb}
 use lib.ListN.{length, getD, drop, length-append, length-drop, drop-of-length-le}
 use lib.Seq.{drop-drop, drop-append-add}
-use borrow.Author.Tests.{eq-eqb, eqb-true, eqb-false}
+use borrow.Author.Tests.{eq-eqb, ne-eqb, eqb-true, eqb-false}
 use Rattle.lists.specs.Bytes.{Every}
-use Rattle.lists.proofs.Tests.{split, clash, and-true}
-use Rattle.names.specs.Name.{nameByte}
+use Rattle.lists.proofs.Tests.{split, clash}
+use Rattle.names.specs.Rules.{NameByte}
 use Rattle.lists.proofs.ListLaws.{drop-next}
 use Rattle.repeats.specs.Pieces.{endsName}
 use Rattle.pairs.specs.declared.ScanEnd.{ScanEnd}
 use Rattle.pairs.specs.declared.ScanEnd.the-variants.{At, Wrong, Cut}
 use Rattle.pairs.specs.declared.PairAt.{PairAt}
 use Rattle.pairs.specs.declared.PairAt.the-variants as PairAt
-use Rattle.pairs.specs.Scan.{Scan, ends, bad, short, scanValue, Stand, pair, finish, cut, wrongName, wrongEscape, onValue, onName, standAt}
-use Rattle.pairs.specs.Helpers.{scanNameFrom, endOf, placeOf}
-use Rattle.pairs.proofs.NameScans.{and-ends}
+use Rattle.pairs.specs.Scan.{Scan, ends, bad, short, scanName, scanValue, Stand, pair, finish, cut, wrongName, wrongEscape, onValue, onName, standAt}
+use Rattle.pairs.specs.Helpers.{endOf, placeOf}
+use Rattle.pairs.proofs.NameScans.{and-ends, name-scan}
 use Rattle.pairs.proofs.ScanLaws.{stand-begun}
 
 -- a scan takes bytes of a kind off a list, up to the byte that ends them
@@ -39,16 +39,6 @@ taken-more {stop} {P} {rest = rest} b w h e t = record {
   clean = subst (Every P) (sym e) (h, t .clean);
 }
 
--- a byte of a name ends none
-name-goes : (b : ℕ) → eqb b 61 ≡ false → nameByte b ≡ true → endsName b ≡ false
-unfolding endsName nameByte
-name-goes b e t = split (eqb b 0)
-    (λ z. let u : nameByte 0 ≡ true = ap nameByte (sym (zero-is b z)) ∙ t in clash cc)
-    (λ z. rw (e, z))
-  where
-    zero-is : (b : ℕ) → eqb b 0 ≡ true → b ≡ 0
-    zero-is b z = omega (arith, eqb-true b 0 z)
-
 -- the bytes of a name
 abbrev pub Goes : ℕ → Type 0
 Goes b = endsName b ≡ false
@@ -57,18 +47,14 @@ Goes b = endsName b ≡ false
 abbrev pub NotZero : ℕ → Type 0
 NotZero b = eqb b 0 ≡ false
 
-pub name-taken : (k : ℕ) (l name rest : List ℕ) → scanNameFrom k l ≡ ends name rest → Taken 0x3D Goes l name rest
-unfolding scanNameFrom
-name-taken k [] name rest e = clash cc
-name-taken k (b ∷ bs) name rest e = split (eqb b 0x3D)
-    (λ t. split (eqb k 0)
-    (λ u. let f : bad 0 ≡ ends name rest = rw (t, u, scanNameFrom) at e in clash cc)
-    (λ u. taken-none 0x3D Goes b bs name rest (eqb-true b 0x3D t) (rw (t, u, scanNameFrom) at e)))
-    (λ t. split (nameByte b && ltb k 31)
-    (λ u.
-    let g = and-ends b (scanNameFrom (k + 1) bs) name rest (rw (t, u, scanNameFrom) at e) in
-    taken-more b name (name-goes b t (and-true (nameByte b) (ltb k 31) u .0)) (g .1) (name-taken (k + 1) bs (g .0) rest (g .2)))
-    (λ u. let f : bad k ≡ ends name rest = rw (t, u, scanNameFrom) at e in clash cc))
+-- a byte of a name ends none
+names-go : (name : List ℕ) → Every NameByte name → Every Goes name
+unfolding endsName
+names-go [] a = tt
+names-go (b ∷ name) a = (rw (ne-eqb b 61 (a .0 .no-equals), ne-eqb b 0 (λ e. omega (arith, a .0 .least))), names-go name (a .1))
+
+pub name-taken : (l name rest : List ℕ) → scanName l ≡ ends name rest → Taken 0x3D Goes l name rest
+name-taken l name rest e = let n = name-scan l name rest e in record { is = n .0; clean = names-go name (n .1 .each) }
 
 or-first : (a b : Bool) → (a || b) ≡ false → a ≡ false
 or-first true b e = e
@@ -110,23 +96,23 @@ by-value l n after name stored rest t (ends s r) q e =
       stored-clean = subst (Every NotZero) g (v .clean);
     }
 
-by-name : (l name stored rest : List ℕ) → (s : Scan) → scanNameFrom 0 l ≡ s → onName s ≡ pair name stored rest → PairHere l name stored rest
+by-name : (l name stored rest : List ℕ) → (s : Scan) → scanName l ≡ s → onName s ≡ pair name stored rest → PairHere l name stored rest
 by-name l name stored rest short q e = clash cc
 by-name l name stored rest (bad k) q e = clash cc
-by-name l name stored rest (ends n after) q e = by-value l n after name stored rest (name-taken 0 l n after q) (scanValue false 0 after) refl e
+by-name l name stored rest (ends n after) q e = by-value l n after name stored rest (name-taken l n after q) (scanValue false 0 after) refl e
 
 pub pair-here : (l name stored rest : List ℕ) → standAt l ≡ pair name stored rest → PairHere l name stored rest
 unfolding standAt
 pair-here [] name stored rest e = clash cc
 pair-here (b ∷ bs) name stored rest e = split (eqb b 0x00)
     (λ t. let f : finish ≡ pair name stored rest = rw (t, standAt) at e in clash cc)
-    (λ t. by-name (b ∷ bs) name stored rest (scanNameFrom 0 (b ∷ bs)) refl (sym (stand-begun (b ∷ bs) (eqb-false b 0x00 t)) ∙ e))
+    (λ t. by-name (b ∷ bs) name stored rest (scanName (b ∷ bs)) refl (sym (stand-begun (b ∷ bs) (eqb-false b 0x00 t)) ∙ e))
 
 -- the name of what begins at `at` ends at n
 pub record NameEnd (area : List ℕ) (at n : ℕ) : Type 0 where
   pub name : List ℕ
   pub after : List ℕ
-  pub scan : scanNameFrom 0 (drop at area) ≡ ends name after
+  pub scan : scanName (drop at area) ≡ ends name after
   pub equals : n ≡ at + length name
   pub follows : after ≡ drop (n + 1) area
   pub inside : n < length area
@@ -139,16 +125,16 @@ drop-past area at n w x rest e h =
 pub past-inside : (area : List ℕ) (at n : ℕ) (w : List ℕ) (x : ℕ) (rest : List ℕ) → drop at area ≡ w ++ x ∷ rest → n ≡ at + length w → n < length area
 past-inside area at n w x rest e h = omega (arith, length-drop at area, ap length e, length-append w (x ∷ rest))
 
-pub name-end : (area : List ℕ) (at n : ℕ) → At n ≡ endOf at at (scanNameFrom 0 (drop at area)) → NameEnd area at n
+pub name-end : (area : List ℕ) (at n : ℕ) → At n ≡ endOf at at (scanName (drop at area)) → NameEnd area at n
 unfolding endOf
-name-end area at n e = go (scanNameFrom 0 (drop at area)) refl e
+name-end area at n e = go (scanName (drop at area)) refl e
   where
-    go : (s : Scan) → scanNameFrom 0 (drop at area) ≡ s → At n ≡ endOf at at s → NameEnd area at n
+    go : (s : Scan) → scanName (drop at area) ≡ s → At n ≡ endOf at at s → NameEnd area at n
     go short q e = clash cc
     go (bad k) q e = clash cc
     go (ends name after) q e =
         let h : n ≡ at + length name = cc in
-        let t : Taken 0x3D Goes (drop at area) name after = name-taken 0 (drop at area) name after q in
+        let t : Taken 0x3D Goes (drop at area) name after = name-taken (drop at area) name after q in
         record {
           name = name;
           after = after;
@@ -180,21 +166,21 @@ module _ (area : List ℕ) (at : ℕ) (h : at < length area) where
   stand-end e = rw (drop-next area at h, eq-eqb (getD area at 0) 0 e, standAt)
 
   module _ (b : getD area at 0 ≡ 0 → ⊥) where
-    stand-name : standAt (drop at area) ≡ onName (scanNameFrom 0 (drop at area))
+    stand-name : standAt (drop at area) ≡ onName (scanName (drop at area))
     stand-name = rw (drop-next area at h) (stand-begun (getD area at 0 ∷ drop (at + 1) area) b)
 
-    pub stand-cut : Cut ≡ endOf at at (scanNameFrom 0 (drop at area)) → PairAt.Cut ≡ placeOf at (standAt (drop at area))
+    pub stand-cut : Cut ≡ endOf at at (scanName (drop at area)) → PairAt.Cut ≡ placeOf at (standAt (drop at area))
     unfolding endOf placeOf
-    stand-cut e = rw stand-name (go (scanNameFrom 0 (drop at area)) e)
+    stand-cut e = rw stand-name (go (scanName (drop at area)) e)
       where
         go : (s : Scan) → Cut ≡ endOf at at s → PairAt.Cut ≡ placeOf at (onName s)
         go short e = refl
         go (bad k) e = clash cc
         go (ends name after) e = clash cc
 
-    pub stand-wrong : (k : ℕ) → Wrong k ≡ endOf at at (scanNameFrom 0 (drop at area)) → PairAt.WrongName k ≡ placeOf at (standAt (drop at area))
+    pub stand-wrong : (k : ℕ) → Wrong k ≡ endOf at at (scanName (drop at area)) → PairAt.WrongName k ≡ placeOf at (standAt (drop at area))
     unfolding endOf placeOf
-    stand-wrong k e = rw stand-name (go (scanNameFrom 0 (drop at area)) e)
+    stand-wrong k e = rw stand-name (go (scanName (drop at area)) e)
       where
         go : (s : Scan) → Wrong k ≡ endOf at at s → PairAt.WrongName k ≡ placeOf at (onName s)
         go short e = clash cc

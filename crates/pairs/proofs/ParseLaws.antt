@@ -56,7 +56,7 @@ module _ (seen : List (List ℕ)) (at past : ℕ) where
   on-same f g (cut-name a l) h = refl
   on-same f g (cut-value stored r v) h = refl
   on-same f g (cut-escape stored r v) h = refl
-  on-same f g (a-wrong-name rest a l w z) h = refl
+  on-same f g (a-wrong-name z u w) h = refl
   on-same f g (a-wrong-escape stored rest r v w) h = refl
 
 enough : (m n : ℕ) (seen : List (List ℕ)) (at past : ℕ) (rest : List ℕ) → length rest < m → length rest < n
@@ -156,7 +156,7 @@ read-on seen at past ps go (the-end rest) e k = read-end seen rest ps e
 read-on seen at past ps go (cut-name a l) e k = clash (cc)
 read-on seen at past ps go (cut-value stored r v) e k = clash (cc)
 read-on seen at past ps go (cut-escape stored r v) e k = clash (cc)
-read-on seen at past ps go (a-wrong-name rest a l w z) e k = clash (cc)
+read-on seen at past ps go (a-wrong-name z u w) e k = clash (cc)
 read-on seen at past ps go (a-wrong-escape stored rest r v w) e k = clash (cc)
 
 print-from : (fuel : ℕ) (seen : List (List ℕ)) (at past : ℕ) (area : List ℕ) (ps : List Pair)

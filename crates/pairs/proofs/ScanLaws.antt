@@ -10,13 +10,12 @@ use lib.Dec.{eqb}
 use borrow.Author.Tests.{eqb-true, eqb-false, ne-eqb}
 use Rattle.lists.specs.Bytes.{Every}
 use Rattle.lists.proofs.Tests.{split, clash}
-use Rattle.names.specs.Rules.{NameByte, NameRule}
+use Rattle.names.specs.Rules.{NameByte, NameRule, FirstWrong}
 use Rattle.values.specs.Value.{spelled, spelledFrom}
-use Rattle.pairs.specs.Scan.{Scan, ends, bad, short, and, scanValue, Stand, pair, finish, cut, wrongName, wrongEscape, onValue, onName, standAt}
-use Rattle.pairs.specs.Rules.{BadByte}
-use Rattle.pairs.specs.Helpers.{scanNameFrom}
-use Rattle.pairs.proofs.NameScans.{and-ends, and-short, and-bad, bad-is, scan-name, name-scan, ScannedWrong}
-use Rattle.pairs.proofs.NameScans.{name-bad-from, bad-name-from, name-short-from, short-name-from, scan-check}
+use Rattle.pairs.specs.Scan.{Scan, ends, bad, short, and, scanName, scanValue, Stand, pair, finish, cut, wrongName, wrongEscape, onValue, onName, standAt}
+use Rattle.pairs.specs.Rules.{UpToEquals}
+use Rattle.pairs.proofs.NameScans.{and-ends, and-short, and-bad, bad-is, scan-name, cut-scan, wrong-scan, ScannedName}
+use Rattle.pairs.proofs.NameScans.{a-name, a-wrong, a-cut, scanned-name}
 
 -- ---- a stored value, byte by byte; after: the byte before was an escape's 0xFF
 
@@ -293,8 +292,7 @@ pub data Standing : List ℕ → Stand → Type 0 where
   cut-name : {begun : List ℕ} → Every NameByte begun → length begun ≤ 31 → Standing begun cut
   cut-value : {name : List ℕ} (stored : List ℕ) → NameRule name → spelled stored ≡ true → Standing (name ++ 0x3D ∷ stored) cut
   cut-escape : {name : List ℕ} (stored : List ℕ) → NameRule name → spelled stored ≡ true → Standing (name ++ 0x3D ∷ (stored ++ 0xFF ∷ [])) cut
-  a-wrong-name : {b : ℕ} {begun : List ℕ} (rest : List ℕ) → Every NameByte begun → length begun ≤ 31 → BadByte (length begun) b
-      → (begun ≡ [] → b ≢ 0x00) → Standing (begun ++ b ∷ rest) (wrongName (length begun))
+  a-wrong-name : {b i : ℕ} {name bs : List ℕ} → b ≢ 0x00 → UpToEquals name (b ∷ bs) → FirstWrong name i → Standing (b ∷ bs) (wrongName i)
   a-wrong-escape : {c : ℕ} {name : List ℕ} (stored rest : List ℕ) → NameRule name → spelled stored ≡ true → (c ≡ 0x00) ⊎ (c ≡ 0x80)
       → Standing (name ++ 0x3D ∷ (stored ++ 0xFF ∷ c ∷ rest)) (wrongEscape (length name + 1 + (length stored + 1)))
 
@@ -310,10 +308,10 @@ begun-name : {name : List ℕ} (t : List ℕ) → NameRule name → Begun (name 
 begun-name {name = []} t r = absurd (omega (arith, r .least))
 begun-name {name = b ∷ bs} t r = name-not-zero (r .each .0)
 
-pub stand-begun : (bs : List ℕ) → Begun bs → standAt bs ≡ onName (scanNameFrom 0 bs)
+pub stand-begun : (bs : List ℕ) → Begun bs → standAt bs ≡ onName (scanName bs)
 unfolding standAt
 stand-begun [] h = absurd h
-stand-begun (b ∷ bs) h = rw (ne-eqb b 0x00 h, standAt) (ap onName (scan-check b bs))
+stand-begun (b ∷ bs) h = rw (ne-eqb b 0x00 h, standAt)
 
 pub stand-none : standAt [] ≡ cut
 unfolding standAt
@@ -332,13 +330,10 @@ standing-stand (a-pair {name = name} {stored = stored} rest r v) = stand-named (
 standing-stand (the-end rest) = stand-end rest
 standing-stand (cut-name {begun = []} a h) = stand-none
 standing-stand (cut-name {begun = b ∷ bs} a h) =
-    stand-begun (b ∷ bs) (name-not-zero (a .0)) ∙ ap onName (short-name-from 0 (b ∷ bs) a (omega arith))
+    stand-begun (b ∷ bs) (name-not-zero (a .0)) ∙ ap onName (cut-scan (record { least = omega arith; most = h; each = a }))
 standing-stand (cut-value {name = name} stored r v) = stand-named stored r ∙ ap (onValue name) (whole-short 0 stored v)
 standing-stand (cut-escape {name = name} stored r v) = stand-named (stored ++ 0xFF ∷ []) r ∙ ap (onValue name) (half-short 0 stored v)
-standing-stand (a-wrong-name {b = b} {begun = []} rest a h w z) =
-    stand-begun (b ∷ rest) (z refl) ∙ ap onName (bad-name-from 0 [] b rest 0 tt (omega arith) (omega arith) w)
-standing-stand (a-wrong-name {b = b} {begun = x ∷ bs} rest a h w z) =
-    stand-begun (x ∷ (bs ++ b ∷ rest)) (name-not-zero (a .0)) ∙ ap onName (bad-name-from 0 (x ∷ bs) b rest (length (x ∷ bs)) a (omega arith) h w)
+standing-stand (a-wrong-name {b = b} {bs = bs} z u w) = stand-begun (b ∷ bs) z ∙ ap onName (wrong-scan u w)
 standing-stand (a-wrong-escape {c = c} {name = name} stored rest r v w) =
     let q : 0 + length stored + 1 ≡ length stored + 1 = omega arith in
     stand-named (stored ++ 0xFF ∷ c ∷ rest) r ∙ ap (onValue name) (bad-value 0 stored c rest v w) ∙ (λ i. wrongEscape (length name + 1 + q i))
@@ -368,25 +363,14 @@ standing-value name t r =
     (λ k e. rw e (standing-escape name t k r (value-bad-from false 0 t k e)))
     (λ e. rw e (standing-cut name t r (value-short-from false 0 t e)))
 
-not-begun-zero : (bs begun : List ℕ) (b : ℕ) (rest : List ℕ) → Begun bs → bs ≡ begun ++ b ∷ rest → begun ≡ [] → b ≢ 0x00
-not-begun-zero [] begun b rest h e y = absurd h
-not-begun-zero (c ∷ bs) begun b rest h e y =
-    λ z. let m : c ≡ b = cc in
-    h (m ∙ z)
-
-standing-wrong : (bs : List ℕ) (k : ℕ) → Begun bs → ScannedWrong 0 bs k → Standing bs (wrongName k)
-standing-wrong bs k h b =
-    let q : k ≡ length (b .begun) = omega (arith, b .place) in
-    rw (b .bytes, q)
-    (a-wrong-name {begun = b .begun} (b .rest) (b .allowed) (omega (arith, b .most)) (rw q at (b .why))
-    (not-begun-zero bs (b .begun) (b .byte) (b .rest) h (b .bytes)))
-
-standing-name : (bs : List ℕ) → Begun bs → Standing bs (onName (scanNameFrom 0 bs))
-standing-name bs h =
-    splitScan (scanNameFrom 0 bs)
-    (λ name t e. let n = name-scan bs name t e in rw e (rw (n .0) (standing-value name t (n .1))))
-    (λ k e. rw e (standing-wrong bs k h (name-bad-from 0 bs k (omega arith) e)))
-    (λ e. let n = name-short-from 0 bs (omega arith) e in rw e (cut-name {begun = bs} (n .allowed) (omega (arith, n .most))))
+standing-name : (bs : List ℕ) → Begun bs → Standing bs (onName (scanName bs))
+standing-name bs h = go (scanned-name bs) h
+  where
+    go : {s : List ℕ} {x : Scan} → ScannedName s x → Begun s → Standing s (onName x)
+    go (a-name {name = name} rest r) h = standing-value name rest r
+    go (a-wrong {bs = []} u w) h = absurd h
+    go (a-wrong {bs = b ∷ bs} u w) h = a-wrong-name h u w
+    go (a-cut r) h = cut-name (r .each) (r .most)
 
 -- AND ONLY THAT IS
 pub standing : (bs : List ℕ) → Standing bs (standAt bs)

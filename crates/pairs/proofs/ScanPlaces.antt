@@ -1,24 +1,29 @@
 -- Laws of the offset where a scan ends: the code's turns, byte by byte, and the pieces that a scan takes off.
 use Prim.Native.Nat.{ℕ, zero, suc, _+_, _-_, _%_, _<_, _≤_}
 use mathlib.Core.Path.{_≡_, refl, sym, ap, subst, _∙_}
-use mathlib.Core.Bool.{Bool, true, false, _||_, and-false}
-use mathlib.Core.List.{List}
-use mathlib.Core.Logic.{⊎-elim}
+use mathlib.Core.Bool.{Bool, true, false, _||_}
+use mathlib.Core.List.{List, [], _∷_}
+use mathlib.Core.Logic.{_≢_, ⊎-elim}
 use native.Mathlib.Nat.{sub-self}
 use native.Mathlib.Omega.{arith}
-use lib.Dec.{eqb}
+use lib.Dec.{leb, eqb}
 use lib.ListN.{length, getD, drop, length-drop, drop-of-length-le}
-use borrow.Author.Tests.{lt-ltb, le-ltb, eq-eqb, ne-eqb, eqb-false}
+use lib.Seq.{getD-drop, drop-drop}
+use borrow.Author.Tests.{eq-eqb, ne-eqb, eqb-true, eqb-false, leb-true, leb-false, le-leb, lt-leb}
 use Rattle.lists.proofs.Tests.{split, clash}
-use Rattle.names.specs.Name.{nameByte}
-use Rattle.names.specs.Helpers.{allowedAhead}
-use Rattle.names.proofs.AheadLaws.{ahead-short, end-before, end-there}
+use Rattle.names.specs.declared.NameCheck.{NameCheck}
+use Rattle.names.specs.declared.NameCheck.the-variants as Names
+use Rattle.names.specs.Name.{nameByte, nameCheck}
+use Rattle.names.specs.Helpers.{allowedAhead, checkAllowed}
+use Rattle.names.proofs.NameLaws.{not-byte}
+use Rattle.names.proofs.AheadLaws.{ahead-none, ahead-here, ahead-next, ahead-short, check-by-allowed, allowed-good}
 use Rattle.lists.proofs.ListLaws.{drop-next}
 use Rattle.lists.specs.Helpers.{untilEither}
 use Rattle.lists.proofs.FindLaws.{until-short, either-ahead, either-there, either-before}
 use Rattle.pairs.specs.declared.ScanEnd.the-variants.{At, Wrong, Cut}
-use Rattle.pairs.specs.Scan.{Scan, ends, bad, short, and, scanValue}
-use Rattle.pairs.specs.Helpers.{scanNameFrom, endOf}
+use Rattle.pairs.specs.Scan.{Scan, ends, bad, short, and, storedName, pastName, scanName, scanValue}
+use Rattle.pairs.specs.Helpers.{nameEnds, endOf}
+use Rattle.pairs.proofs.NameScans.{stored-none, stored-equals, stored-next, scan-good, scan-wrong}
 
 -- one byte more in front
 end-and : (from at b : ℕ) (s : Scan) → endOf from at (and b s) ≡ endOf from (at + 1) s
@@ -27,98 +32,118 @@ end-and from at b (ends bs rest) = let e : at + suc (length bs) ≡ at + 1 + len
 end-and from at b (bad k) = refl
 end-and from at b short = refl
 
--- the scan of a name that began at `from` has come to i
-record NameScan (area : List ℕ) (from i : ℕ) : Type 0 where
-  pub low : from ≤ i
-  pub left : endOf from from (scanNameFrom 0 (drop from area)) ≡ endOf from i (scanNameFrom (i - from) (drop i area))
+-- ---- a stored name, by the first byte that a name may not hold
 
-name-begun : (area : List ℕ) (from : ℕ) → NameScan area from from
-name-begun area from = record { low = omega arith; left = rw (sub-self from) }
+-- `=` is not allowed
+equals-refused : (b : ℕ) → b ≡ 0x3D → nameByte b ≡ false
+equals-refused b e = not-byte b (λ n. n .no-equals e)
 
-module _ {area : List ℕ} {from i : ℕ} (s : NameScan area from i) where
-  name-cut : length area ≤ i → Cut ≡ endOf from from (scanNameFrom 0 (drop from area))
-  unfolding scanNameFrom endOf
-  name-cut h = sym (s .left ∙ rw (drop-of-length-le area h))
+-- it holds the allowed bytes at the start
+stored-ahead : (l : List ℕ) → allowedAhead (storedName l) ≡ allowedAhead l
+stored-ahead [] = ap allowedAhead stored-none
+stored-ahead (b ∷ bs) =
+    split (eqb b 0x3D)
+    (λ t. let z = eqb-true b 0x3D t in
+    ap (λ (x : ℕ). allowedAhead (storedName (x ∷ bs))) z ∙ ap allowedAhead (stored-equals bs) ∙ ahead-none ∙ sym (ahead-here b bs (equals-refused b z)))
+    (λ t. ap allowedAhead (stored-next b bs (eqb-false b 0x3D t))
+    ∙ split (nameByte b)
+    (λ u. ahead-next b (storedName bs) u ∙ ap suc (stored-ahead bs) ∙ sym (ahead-next b bs u))
+    (λ u. ahead-here b (storedName bs) u ∙ sym (ahead-here b bs u)))
 
-  module _ (h : i < length area) where
-    name-empty : getD area i 0 ≡ 61 → i ≡ from → Wrong i ≡ endOf from from (scanNameFrom 0 (drop from area))
-    unfolding scanNameFrom endOf
-    name-empty b e =
-        let z : i - from ≡ 0 = omega arith in
-        let p : from + 0 ≡ i = omega arith in
-        sym (s .left ∙ rw (drop-next area i h, eq-eqb (getD area i 0) 61 b, eq-eqb (i - from) 0 z, scanNameFrom) (ap Wrong p))
+stored-short : (l : List ℕ) → length (storedName l) ≤ length l
+stored-short [] = omega (arith, ap length stored-none)
+stored-short (b ∷ bs) =
+    split (eqb b 0x3D)
+    (λ t. omega (arith, ap (λ (x : ℕ). length (storedName (x ∷ bs))) (eqb-true b 0x3D t), ap length (stored-equals bs)))
+    (λ t. omega (arith, ap length (stored-next b bs (eqb-false b 0x3D t)), stored-short bs))
 
-    name-ends : getD area i 0 ≡ 61 → (i ≡ from → ⊥) → At i ≡ endOf from from (scanNameFrom 0 (drop from area))
-    unfolding scanNameFrom endOf
-    name-ends b e =
-        let p : i + 0 ≡ i = omega arith in
-        let z : i - from ≡ 0 → ⊥ = λ q. e (omega (arith, s .low)) in
-        sym (s .left ∙ rw (drop-next area i h, eq-eqb (getD area i 0) 61 b, ne-eqb (i - from) 0 z, scanNameFrom) (ap At p))
+-- and no other where `=` follows them
+stored-here : (l : List ℕ) → getD l (allowedAhead l) 0 ≡ 0x3D → length (storedName l) ≤ allowedAhead l
+stored-here [] e = omega (arith, ap length stored-none)
+stored-here (b ∷ bs) e =
+    split (eqb b 0x3D)
+    (λ t. omega (arith, ap (λ (x : ℕ). length (storedName (x ∷ bs))) (eqb-true b 0x3D t), ap length (stored-equals bs)))
+    (λ t. let h = eqb-false b 0x3D t in
+    split (nameByte b)
+    (λ u. omega (arith, ap length (stored-next b bs h), ahead-next b bs u, stored-here bs (rw (ahead-next b bs u) at e)))
+    (λ u. absurd (h (rw (ahead-here b bs u) at e))))
 
-    name-long : (getD area i 0 ≡ 61 → ⊥) → 31 ≤ i - from → Wrong i ≡ endOf from from (scanNameFrom 0 (drop from area))
-    unfolding scanNameFrom endOf
-    name-long b e =
-        let p : from + (i - from) ≡ i = omega (arith, s .low) in
-        let a = and-false (nameByte (getD area i 0)) in
-        sym (s .left ∙ rw (drop-next area i h, ne-eqb (getD area i 0) 61 b, le-ltb (i - from) 31 e, a, scanNameFrom) (ap Wrong p))
+-- but one more where another byte does
+stored-on : (l : List ℕ) → allowedAhead l < length l → getD l (allowedAhead l) 0 ≢ 0x3D → allowedAhead l < length (storedName l)
+stored-on [] h n = absurd (omega arith)
+stored-on (b ∷ bs) h n =
+    split (eqb b 0x3D)
+    (λ t. let z = eqb-true b 0x3D t in absurd ((rw (ahead-here b bs (equals-refused b z)) at n) z))
+    (λ t. let q = ap length (stored-next b bs (eqb-false b 0x3D t)) in
+    split (nameByte b)
+    (λ u. omega (arith, q, ahead-next b bs u, stored-on bs (omega (arith, ahead-next b bs u)) (rw (ahead-next b bs u) at n)))
+    (λ u. omega (arith, q, ahead-here b bs u)))
 
-    name-wrong : (getD area i 0 ≡ 61 → ⊥) → nameByte (getD area i 0) ≡ false → Wrong i ≡ endOf from from (scanNameFrom 0 (drop from area))
-    unfolding scanNameFrom endOf
-    name-wrong b e =
-        let p : from + (i - from) ≡ i = omega (arith, s .low) in
-        sym (s .left ∙ rw (drop-next area i h, ne-eqb (getD area i 0) 61 b, e, scanNameFrom) (ap Wrong p))
+-- where a stored name ends
+pub ends-past : (area : List ℕ) (at : ℕ) → length area ≤ at → true ≡ nameEnds area at
+unfolding nameEnds
+ends-past area at h = rw (le-leb (length area) at h)
 
-    name-next : (getD area i 0 ≡ 61 → ⊥) → nameByte (getD area i 0) ≡ true → i - from < 31 → NameScan area from (i + 1)
-    unfolding scanNameFrom
-    name-next b e k =
-        let p : i - from + 1 ≡ i + 1 - from = omega (arith, s .low) in
-        record {
-          low = omega (arith, s .low);
-          left =
-              s .left
-              ∙ rw (drop-next area i h, ne-eqb (getD area i 0) 61 b, e, lt-ltb (i - from) 31 k, scanNameFrom)
-              (end-and from i (getD area i 0) (scanNameFrom (i - from + 1) (drop (i + 1) area))
-              ∙ ap (λ (n : ℕ). endOf from (i + 1) (scanNameFrom n (drop (i + 1) area))) p);
-        }
-
--- a byte that a name may hold is not `=`
-not-equals : (b : ℕ) → nameByte b ≡ true → b ≡ 61 → ⊥
-unfolding nameByte
-not-equals b e h = clash (cc (e, ap nameByte h))
-
--- allowed bytes, at most 31, are taken at once
-name-skip : (area : List ℕ) (from r : ℕ) → r ≡ from + allowedAhead (drop from area) → (n : ℕ) → from + n ≤ r → n ≤ 31 → NameScan area from (from + n)
-name-skip area from r e zero h l = let q : from ≡ from + 0 = omega arith in subst (λ (m : ℕ). NameScan area from m) q (name-begun area from)
-name-skip area from r e (suc n) h l =
-    let q : from + n + 1 ≡ from + suc n = omega arith in
-    let b : nameByte (getD area (from + n) 0) ≡ true = end-before area from e (from + n) (omega arith) (omega arith) in
-    let k : from + n < length area = omega (arith, ahead-short (drop from area), length-drop from area) in
-    subst (λ (m : ℕ). NameScan area from m) q
-    (name-next (name-skip area from r e n (omega arith) (omega arith)) k (not-equals (getD area (from + n) 0) b) b (omega arith))
+pub ends-byte : (area : List ℕ) (at : ℕ) → at < length area → eqb (getD area at 0) 0x3D ≡ nameEnds area at
+unfolding nameEnds
+ends-byte area at h = rw (lt-leb (length area) at h)
 
 -- by the first byte r from `from` on that a name may not hold
 module _ (area : List ℕ) (from r : ℕ) (e : r ≡ from + allowedAhead (drop from area)) where
-  come : r - from ≤ 31 → NameScan area from r
-  come h = let q : from + (r - from) ≡ r = omega arith in subst (λ (m : ℕ). NameScan area from m) q (name-skip area from r e (r - from) (omega arith) h)
+  abbrev left : List ℕ
+  left = drop from area
 
-  pub end-long : 31 < r - from → Wrong (from + 31) ≡ endOf from from (scanNameFrom 0 (drop from area))
-  end-long h =
-      let b : nameByte (getD area (from + 31) 0) ≡ true = end-before area from e (from + 31) (omega arith) (omega arith) in
-      name-long (name-skip area from r e 31 (omega arith) (omega arith)) (omega (arith, ahead-short (drop from area), length-drop from area))
-      (not-equals (getD area (from + 31) 0) b) (omega arith)
+  there : getD left (allowedAhead left) 0 ≡ getD area r 0
+  there = getD-drop from area (allowedAhead left) 0 ∙ ap (λ (k : ℕ). getD area k 0) (sym e)
 
-  module _ (h : r - from ≤ 31) where
-    pub end-cut : length area ≤ r → Cut ≡ endOf from from (scanNameFrom 0 (drop from area))
-    end-cut k = name-cut (come h) k
+  ends-whole : nameEnds area r ≡ true → length (storedName left) ≤ r - from
+  unfolding nameEnds
+  ends-whole t =
+      split (leb (length area) r)
+      (λ u. omega (arith, leb-true (length area) r u, stored-short left, length-drop from area))
+      (λ u. let z : getD area r 0 ≡ 0x3D = eqb-true (getD area r 0) 0x3D (rw u at t) in omega (arith, stored-here left (there ∙ z)))
 
-    pub end-wrong : r < length area → (getD area r 0 ≡ 61 → ⊥) → Wrong r ≡ endOf from from (scanNameFrom 0 (drop from area))
-    end-wrong k b = name-wrong (come h) k b (end-there area from e k)
+  ends-not : nameEnds area r ≡ false → r - from < length (storedName left)
+  unfolding nameEnds
+  ends-not t =
+      split (leb (length area) r)
+      (λ u. clash (cc))
+      (λ u. let n = eqb-false (getD area r 0) 0x3D (rw u at t) in
+      omega (arith, stored-on left (omega (arith, leb-false (length area) r u, length-drop from area)) (λ q. n (sym there ∙ q))))
 
-    pub end-empty : r < length area → getD area r 0 ≡ 61 → r ≡ from → Wrong r ≡ endOf from from (scanNameFrom 0 (drop from area))
-    end-empty k b z = name-empty (come h) k b z
+  -- THE CHECK OF A STORED NAME by the allowed bytes at its start, and whether it ends there
+  stored-check : checkAllowed (r - from) (nameEnds area r) ≡ nameCheck (storedName left)
+  stored-check = check-by-allowed (storedName left) (r - from) (nameEnds area r) (omega (arith, stored-ahead left)) ends-whole ends-not
 
-    pub end-name : r < length area → getD area r 0 ≡ 61 → (r ≡ from → ⊥) → At r ≡ endOf from from (scanNameFrom 0 (drop from area))
-    end-name k b z = name-ends (come h) k b z
+  module _ (whole : Bool) (u : whole ≡ nameEnds area r) where
+    checked : {x : NameCheck} → x ≡ checkAllowed (r - from) whole → nameCheck (storedName left) ≡ x
+    checked w = sym (w ∙ ap (checkAllowed (r - from)) u ∙ stored-check)
+
+    pub name-wrong : (i : ℕ) → Names.Wrong i ≡ checkAllowed (r - from) whole → Wrong (from + i) ≡ endOf from from (scanName (drop from area))
+    unfolding endOf
+    name-wrong i w = ap (endOf from from) (sym (scan-wrong left i (checked w)))
+
+    module _ (w : Names.Good ≡ checkAllowed (r - from) whole) where
+      long : length (storedName left) ≡ r - from
+      long = omega (arith, ends-whole (sym u ∙ allowed-good (r - from) whole w), stored-ahead left, ahead-short (storedName left))
+
+      past : drop (length (storedName left)) left ≡ drop r area
+      past =
+          let q : from + length (storedName left) ≡ r = omega (arith, long) in
+          drop-drop (length (storedName left)) from area ∙ ap (λ (k : ℕ). drop k area) q
+
+      found : scanName left ≡ pastName (storedName left) (drop r area)
+      found = scan-good left (checked w) ∙ ap (pastName (storedName left)) past
+
+      pub name-at : r < length area → At r ≡ endOf from from (scanName (drop from area))
+      unfolding endOf
+      name-at h =
+          let q : r ≡ from + length (storedName left) = omega (arith, long) in
+          ap At q ∙ ap (endOf from from) (sym (found ∙ ap (pastName (storedName left)) (drop-next area r h)))
+
+      pub name-cut : length area ≤ r → Cut ≡ endOf from from (scanName (drop from area))
+      unfolding endOf
+      name-cut h = ap (endOf from from) (sym (found ∙ ap (pastName (storedName left)) (drop-of-length-le area h)))
 
 -- the scan of a value that began at `from` has come to i
 pub record ValueScan (area : List ℕ) (from : ℕ) (after : Bool) (i : ℕ) : Type 0 where

@@ -1,11 +1,10 @@
 -- For the code: what it answers, in terms of the scans, the stands and the pairs: offsets count from the area's first byte.
 use Prim.Native.Nat.{ℕ, zero, suc, _+_}
-use mathlib.Core.Bool.{true, false, _&&_, cond}
-use mathlib.Core.List.{List, [], _∷_}
-use lib.ListN.{length}
-use lib.Dec.{ltb, eqb}
+use mathlib.Core.Bool.{Bool, _||_, cond}
+use mathlib.Core.List.{List}
+use lib.ListN.{length, getD}
+use lib.Dec.{leb, eqb}
 use Rattle.lists.specs.Bytes.{sameBytes}
-use Rattle.names.specs.Name.{nameByte}
 use Rattle.repeats.specs.declared.Repeat.{Repeat}
 use Rattle.repeats.specs.declared.Repeat.the-variants as Repeat
 use Rattle.errors.specs.declared.AreaFault.the-variants.{AreaEnd, StoredName, Escape, Repeated}
@@ -18,17 +17,12 @@ use Rattle.pairs.specs.declared.Scanned.{Scanned}
 use Rattle.pairs.specs.declared.Scanned.the-variants as Scanned
 use Rattle.pairs.specs.declared.Place.{Place}
 use Rattle.pairs.specs.declared.Place.the-variants as Place
-use Rattle.pairs.specs.Scan.{Scan, ends, bad, short, and, Stand, pair, finish, cut, wrongName, wrongEscape, standAt}
+use Rattle.pairs.specs.Scan.{Scan, ends, bad, short, Stand, pair, finish, cut, wrongName, wrongEscape, standAt}
 use Rattle.pairs.specs.Area.{Parse, parsed, faulty, pairsBytes}
 
--- a scan of a stored name byte by byte after k bytes: an `=` ends it, but not at once, and any other byte is allowed and at most the 31st
-unfoldable pub scanNameFrom : ℕ → List ℕ → Scan
-scanNameFrom k [] = short
-scanNameFrom k (b ∷ bs) =
-    elim (eqb b 0x3D) [
-      | true ↦ cond (eqb k 0) (bad 0) (ends [] bs)
-      | false ↦ elim (nameByte b && ltb k 31) [ true ↦ and b (scanNameFrom (k + 1) bs) | false ↦ bad k ]
-    ]
+-- whether a stored name ends at the offset at: its `=` stands there, or the area ends
+unfoldable pub nameEnds : List ℕ → ℕ → Bool
+nameEnds area at = leb (length area) at || eqb (getD area at 0) 0x3D
 
 -- where a scan that began at `from` ends; at: the offset of what is left of it
 unfoldable pub endOf : ℕ → ℕ → Scan → ScanEnd

@@ -7,7 +7,7 @@ use lib.ListN.{length}
 use Rattle.lists.specs.Bytes.{Every}
 use Rattle.errors.specs.declared.AreaFault.{AreaFault}
 use Rattle.errors.specs.declared.AreaFault.the-variants.{AreaEnd, StoredName, Escape, Repeated}
-use Rattle.names.specs.Rules.{NameByte, NameRule}
+use Rattle.names.specs.Rules.{NameByte, NameRule, FirstWrong}
 use Rattle.values.specs.Rules.{Spells}
 
 -- a variable: its name, its value as decoded, and the bytes of its pair from its name through its 0x00
@@ -44,11 +44,10 @@ pub record WellFormed (es : List Entry) (area : List ℕ) : Type 0 where
   pub pairs : Pairs es area (0x00 ∷ padding)
   pub once : Once es
 
--- a byte of a name that decides code 8, after k bytes that are allowed
-pub data BadByte (k b : ℕ) : Type 0 where
-  not-allowed : b ≢ 0x3D → ¬ (NameByte b) → BadByte k b
-  equals-at-once : b ≡ 0x3D → k ≡ 0 → BadByte k b
-  thirty-second : b ≢ 0x3D → k ≡ 31 → BadByte k b
+-- the stored name at the start of these bytes: those before the first `=`, or all where there is none
+pub data UpToEquals : List ℕ → List ℕ → Type 0 where
+  ended : {name : List ℕ} (rest : List ℕ) → Every (λ b. b ≢ 0x3D) name → UpToEquals name (name ++ 0x3D ∷ rest)
+  unended : {name : List ℕ} → Every (λ b. b ≢ 0x3D) name → UpToEquals name name
 
 -- what the area's end cuts off: nothing of a pair, or part of its name, of its value, or 0xFF without its second byte
 pub data CutOff : List ℕ → Type 0 where
@@ -59,8 +58,8 @@ pub data CutOff : List ℕ → Type 0 where
 -- the fault at what is left of an area after good pairs with these entries; its offset counts from the area's first byte
 pub data FaultAt (past : ℕ) (es : List Entry) : List ℕ → AreaFault → ℕ → Type 0 where
   seven : {rest : List ℕ} → CutOff rest → FaultAt past es rest AreaEnd past
-  eight : {b : ℕ} {begun : List ℕ} (rest : List ℕ) → Every NameByte begun → length begun ≤ 31 → BadByte (length begun) b
-      → (begun ≡ [] → b ≢ 0x00) → FaultAt past es (begun ++ b ∷ rest) StoredName (sizes es + length begun)
+  eight : {b i : ℕ} {name bs : List ℕ} → b ≢ 0x00 → UpToEquals name (b ∷ bs) → FirstWrong name i
+      → FaultAt past es (b ∷ bs) StoredName (sizes es + i)
   nine : {c : ℕ} {name stored value : List ℕ} (rest : List ℕ) → NameRule name → Spells stored value → (c ≡ 0x00) ⊎ (c ≡ 0x80)
       → FaultAt past es (name ++ 0x3D ∷ (stored ++ 0xFF ∷ c ∷ rest)) Escape (sizes es + (length name + 1 + (length stored + 1)))
   ten : {name stored value : List ℕ} (rest : List ℕ) → NameRule name → Spells stored value → In name es

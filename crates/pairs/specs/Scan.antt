@@ -2,7 +2,7 @@
 use Prim.Native.Nat.{ℕ, _+_}
 use mathlib.Core.Bool.{Bool, true, false, _||_}
 use mathlib.Core.List.{List, [], _∷_}
-use lib.ListN.{length, take, drop}
+use lib.ListN.{length, drop}
 use lib.Dec.{eqb}
 use Rattle.names.specs.Name.{nameCheck, onCheck}
 
@@ -28,9 +28,9 @@ abbrev pub pastName : List ℕ → List ℕ → Scan
 pastName name [] = short
 pastName name (b ∷ rest) = ends name rest
 
--- a stored name is checked as a caller's is, by its first 32 bytes
+-- a stored name is checked as a caller's is
 unfoldable pub scanName : List ℕ → Scan
-scanName bs = onCheck (nameCheck (take 32 (storedName bs))) (pastName (storedName bs) (drop (length (storedName bs)) bs)) bad
+scanName bs = onCheck (nameCheck (storedName bs)) (pastName (storedName bs) (drop (length (storedName bs)) bs)) bad
 
 -- k bytes of the stored value have been read; after: the last one was an escape's 0xFF, which 0x00 and 0x80 must not follow
 unfoldable pub scanValue : Bool → ℕ → List ℕ → Scan

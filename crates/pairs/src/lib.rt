@@ -1,15 +1,16 @@
 // The pairs of a variable area: what stands at an offset, and the scan of the whole area.
 use errors::AreaFault;
 use errors::Error;
+use names::NameCheck;
 use repeats::Repeat;
 ghost use mathlib.Core.Path.{_≡_};
 ghost use mathlib.Core.Bool.{false};
 ghost use Prim.Native.Nat.{_≤_};
 ghost use lib.ListN.{length, take, drop};
 ghost use Rattle.repeats.specs.Pieces.{firstRepeat};
-ghost use Rattle.pairs.specs.Scan.{scanValue, standAt};
+ghost use Rattle.pairs.specs.Scan.{scanName, scanValue, standAt};
 ghost use Rattle.pairs.specs.Area.{parse};
-ghost use Rattle.pairs.specs.Helpers.{scanNameFrom, endOf, placeOf, orRepeat, scannedOf, closedOf, firstPlace, findAt};
+ghost use Rattle.pairs.specs.Helpers.{nameEnds, endOf, placeOf, orRepeat, scannedOf, closedOf, firstPlace, findAt};
 
 // Where a scan of a name or of a value ends.
 enum ScanEnd {
@@ -55,24 +56,30 @@ pub enum Place {
     None,
 }
 
-// Scans a name up to its `=`.
+// Whether a stored name ends at an offset: its `=` stands there, or the area ends.
+fn name_ends(area: &[u8], at: usize) -> bool
+    ensures { λ r. ⌜ r ≡ nameEnds (now (area .entry)) at ⌝ }
+{
+    if area.len() <= at {
+        return true;
+    }
+    area[at] == b'='
+}
+
+// Scans a name up to its `=`, and checks it as a caller's is.
 fn scan_name(area: &[u8], from: usize) -> ScanEnd
-    ensures { λ r. ⌜ r ≡ endOf from from (scanNameFrom 0 (drop from (now (area .entry)))) ⌝ }
+    ensures { λ r. ⌜ r ≡ endOf from from (scanName (drop from (now (area .entry)))) ⌝ }
 {
     let end = names::name_end(area, from);
-    if 31 < end - from {
-        return ScanEnd::Wrong(from + 31);
+    match names::check_allowed(end - from, name_ends(area, end)) {
+        NameCheck::Wrong { at } => ScanEnd::Wrong(from + at),
+        NameCheck::Good => {
+            if area.len() <= end {
+                return ScanEnd::Cut;
+            }
+            ScanEnd::At(end)
+        }
     }
-    if area.len() <= end {
-        return ScanEnd::Cut;
-    }
-    if area[end] != b'=' {
-        return ScanEnd::Wrong(end);
-    }
-    if end == from {
-        return ScanEnd::Wrong(end);
-    }
-    ScanEnd::At(end)
 }
 
 // Scans a stored value up to its 0x00.
