@@ -61,7 +61,7 @@ area-in-form area ps r c =
 
 module _ (m : Model) where
   step-misnamed : (name : List ℕ) (action : Action) (at : ℕ) → nameCheck name ≡ Wrong at
-      → callModel (named name action) m ≡ keeps (denies 11 0 (lentBy action)) m
+      → callModel (named name action) m ≡ keeps (denies 11 at (lentBy action)) m
   unfolding callModel
   step-misnamed name action at g = rw g
 
@@ -186,7 +186,7 @@ module _ (n : ℕ) (area : List ℕ) (ps : List Pair) (r : parse area ≡ parsed
       (λ g. agree-as (call-parsed call area (check-named name action ∙ g) ps r) (step-named m name action g)
       (agree-action name (check-good-exactly name .0 g) action h))
       (λ at g. agree-as (call-misnamed call area at (check-named name action ∙ g)) (step-misnamed m name action at g)
-      (stay call (refused BadName) (lentBy action) (denies 11 0 (lentBy action)) (λ q. clash (cc)) refl))
+      (stay call (refused (BadName at)) (lentBy action) (denies 11 at (lentBy action)) (λ q. clash (cc)) refl))
 
   agree-normalize : Agree n normalize area ps (callArea normalize area) (callModel normalize m)
   agree-normalize =

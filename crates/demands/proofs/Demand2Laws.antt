@@ -121,7 +121,7 @@ module _ (n : ℕ) (name value area : List ℕ) (h : codeFrom n (callArea (set n
       (λ g. split-parse (parse area) (of-pairs g)
       (λ f k r. never (BadArea f k) (refuse (BadArea f k) (set name value) area)
       (call-faulty (set name value) area (check-named name (setTo value) ∙ g) f k r) refl))
-      (λ k g. never BadName (refuse BadName (set name value) area)
+      (λ k g. never (BadName k) (refuse (BadName k) (set name value) area)
       (call-misnamed (set name value) area k (check-named name (setTo value) ∙ g)) refl)
 
 -- ---- a set and then a read, on an image
@@ -152,7 +152,7 @@ set-read I name value buffer h l =
     (set-done (p .offset + 16) name value (areaOf I (At p))
     (sym (ap (λ (x : Result). x .told .code) (call-image (set name value) I p e)) ∙ h)) l))
     (λ x e. absurd (refused-code x (sym (ap (λ (y : Result). y .told .code) (image-refused (set name value) I w x e)) ∙ h))))
-    (λ k w. absurd (refused-code BadName (sym (ap (λ (y : Result). y .told .code) (image-misnamed (set name value) I k w)) ∙ h)))
+    (λ k w. absurd (refused-code (BadName k) (sym (ap (λ (y : Result). y .told .code) (image-misnamed (set name value) I k w)) ∙ h)))
 
 -- a variable reads as its entry says
 pub entry-read : (I : List ℕ) → AllBytes I → (p : Partition) (es : List Entry) (name value buffer : List ℕ) → HasCommon I p

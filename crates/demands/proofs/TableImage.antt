@@ -24,8 +24,8 @@ use Rattle.partitions.proofs.AreaLaws.{found-among, area-refused}
 use Rattle.partitions.proofs.FrameLaws.{among-area}
 use Rattle.names.specs.declared.NameCheck.the-variants.{Good, Wrong}
 use Rattle.names.specs.Name.{nameCheck}
-use Rattle.names.specs.Rules.{NameRule}
-use Rattle.names.proofs.NameLaws.{check-good-exactly, check-wrong, split-check}
+use Rattle.names.specs.Rules.{FirstWrong}
+use Rattle.names.proofs.NameLaws.{check-good-exactly, check-wrong-exactly}
 use Rattle.variables.specs.Calls.{Call, named, normalize, count, callCheck}
 use Rattle.variables.proofs.CallLaws.{check-named, check-normalize, check-count}
 use Rattle.nvram.specs.Common.{NoCommon, commonOf}
@@ -49,8 +49,8 @@ taken-name (by-name {name = name} {action = action}) = check-named name action
 pub named-well : (call : Call) → callCheck call ≡ Good → WellNamed (variable call)
 named-well call t name k = check-good-exactly name .0 (sym (taken-name k) ∙ t)
 
-pub eleven-row : (call : Call) (I : List ℕ) (at : ℕ) → callCheck call ≡ Wrong at → Answers I (variable call) (refuses (variable call) I 11 0)
-eleven-row (named name action) I at e = Answers.eleven by-name (check-wrong (sym (check-named name action) ∙ e))
+pub eleven-row : (call : Call) (I : List ℕ) (at : ℕ) → callCheck call ≡ Wrong at → Answers I (variable call) (refuses (variable call) I 11 at)
+eleven-row (named name action) I at e = Answers.eleven by-name (check-wrong-exactly name at .0 (sym (check-named name action) ∙ e))
 eleven-row normalize I at e = clash (cc (check-normalize))
 eleven-row count I at e = clash (cc (check-count))
 
@@ -59,12 +59,11 @@ refusal-seen : (call : Call) (I : List ℕ) (e : Error) (r : Result) → r ≡ r
     → seenCall r ≡ refuses (variable call) I (codeOf e) (offsetOf e)
 refusal-seen call I e r q = ap seenCall q
 
-pub misnamed-seen : (call : Call) (I : List ℕ) (at : ℕ) → callCheck call ≡ Wrong at → seen (variable call) I ≡ refuses (variable call) I 11 0
-misnamed-seen call I at t = refusal-seen call I BadName (callImage call I) (image-misnamed call I at t)
+pub misnamed-seen : (call : Call) (I : List ℕ) (at : ℕ) → callCheck call ≡ Wrong at → seen (variable call) I ≡ refuses (variable call) I 11 at
+misnamed-seen call I at t = refusal-seen call I (BadName at) (callImage call I) (image-misnamed call I at t)
 
-pub eleven-seen : {name : List ℕ} (r : Request) (I : List ℕ) → Takes r name → ¬ (NameRule name) → seen r I ≡ refuses r I 11 0
-eleven-seen {name} (variable call) I k q =
-    split-check (callCheck call) (λ t. absurd (q (named-well call t name k))) (λ at t. misnamed-seen call I at t)
+pub eleven-seen : {name : List ℕ} {i : ℕ} (r : Request) (I : List ℕ) → Takes r name → FirstWrong name i → seen r I ≡ refuses r I 11 i
+eleven-seen {name} {i} (variable call) I k w = misnamed-seen call I i (taken-name k ∙ check-wrong-exactly name i .1 w)
 
 -- ---- 1 to 4, and 6
 

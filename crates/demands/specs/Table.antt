@@ -9,7 +9,7 @@ use Rattle.errors.specs.declared.AreaFault.the-variants.{AreaEnd, StoredName, E
 use Rattle.header.specs.Rules.{Breaks}
 use Rattle.partitions.specs.declared.Partition.{Partition}
 use Rattle.partitions.specs.Cover.{LengthRule, Cover, PartitionCount, FirstNamed, NotNamed, Indexed, NotIndexed, areaAt, OutsideKept}
-use Rattle.names.specs.Rules.{NameRule}
+use Rattle.names.specs.Rules.{NameRule, FirstWrong}
 use Rattle.pairs.specs.Rules.{Entry, In, Pairs, Once, FaultAt}
 use Rattle.variables.specs.Rules.{Holds, SetSize, SetLeaves, RemoveLeaves, NormalizeLeaves}
 use Rattle.variables.specs.Calls.{Action, Call, named, set, remove, normalize, read, count}
@@ -61,8 +61,8 @@ pub record Holding (value buffer buffer′ : List ℕ) : Type 0 where
 
 -- all that is seen of a request on the image I, row by row
 pub data Answers (I : List ℕ) : Request → Seen → Type 0 where
-  -- caller's variable name breaks the name rule
-  eleven : {r : Request} {name : List ℕ} → Takes r name → ¬ (NameRule name) → Answers I r (refuses r I 11 0)
+  -- caller's variable name breaks the name rule; the offset is the index at which it does
+  eleven : {r : Request} {name : List ℕ} {i : ℕ} → Takes r name → FirstWrong name i → Answers I r (refuses r I 11 i)
   -- image length outside the rule
   one : {r : Request} → WellNamed r → ¬ (LengthRule (length I)) → Answers I r (refuses r I 1 0)
   -- length field is zero

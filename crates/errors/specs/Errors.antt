@@ -26,18 +26,18 @@ codeOf ImageLength = 1
 codeOf (BadHeader fault at) = headerCode fault
 codeOf NoPartition = 6
 codeOf (BadArea fault at) = areaCode fault
-codeOf BadName = 11
+codeOf (BadName at) = 11
 codeOf NoVariable = 12
 codeOf NoRoom = 13
 codeOf ShortBuffer = 14
 
--- the offset answered with it, 0 where the table has none (document 01: place)
+-- the offset answered with it, 0 where the table has none (document 01: place); of 11 it is the index in the name
 abbrev pub offsetOf : Error → ℕ
 offsetOf ImageLength = 0
 offsetOf (BadHeader fault at) = at
 offsetOf NoPartition = 0
 offsetOf (BadArea fault at) = at
-offsetOf BadName = 0
+offsetOf (BadName at) = at
 offsetOf NoVariable = 0
 offsetOf NoRoom = 0
 offsetOf ShortBuffer = 0
@@ -48,7 +48,7 @@ moved n ImageLength = ImageLength
 moved n (BadHeader fault at) = BadHeader fault at
 moved n NoPartition = NoPartition
 moved n (BadArea fault at) = BadArea fault (n + at)
-moved n BadName = BadName
+moved n (BadName at) = BadName at
 moved n NoVariable = NoVariable
 moved n NoRoom = NoRoom
 moved n ShortBuffer = ShortBuffer

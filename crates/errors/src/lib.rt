@@ -61,8 +61,8 @@ pub enum Error {
     NoPartition,
     // 7 to 10: the variable area has a fault, decided at this offset.
     BadArea { fault: AreaFault, at: usize },
-    // 11: the caller's variable name breaks the name rule.
-    BadName,
+    // 11: the caller's variable name breaks the name rule, first at this index.
+    BadName { at: usize },
     // 12: the variable is not found.
     NoVariable,
     // 13: the pairs and the ending 0x00 exceed the area after the edit.
@@ -81,7 +81,7 @@ impl Error {
             Error::BadHeader { fault, at: _ } => fault.code(),
             Error::NoPartition => 6,
             Error::BadArea { fault, at: _ } => fault.code(),
-            Error::BadName => 11,
+            Error::BadName { at: _ } => 11,
             Error::NoVariable => 12,
             Error::NoRoom => 13,
             Error::ShortBuffer => 14,
@@ -97,7 +97,7 @@ impl Error {
             Error::BadHeader { fault: _, at } => at,
             Error::NoPartition => 0,
             Error::BadArea { fault: _, at } => at,
-            Error::BadName => 0,
+            Error::BadName { at } => at,
             Error::NoVariable => 0,
             Error::NoRoom => 0,
             Error::ShortBuffer => 0,

@@ -26,7 +26,7 @@ abbrev pub lifted : List ℕ → Partition → Outcome → Result
 lifted I p o = record { told = toldAt (p .offset + 16) (o .reply) (o .buffer); image = pasted I (p .offset + 16) (o .area) }
 
 module _ (call : Call) (I : List ℕ) where
-  pub image-misnamed : (at : ℕ) → callCheck call ≡ Wrong at → callImage call I ≡ refusedCall BadName call I
+  pub image-misnamed : (at : ℕ) → callCheck call ≡ Wrong at → callImage call I ≡ refusedCall (BadName at) call I
   unfolding callImage
   image-misnamed at w = rw w
 
@@ -41,7 +41,7 @@ module _ (call : Call) (I : List ℕ) where
   pub call-image : (p : Partition) → commonOf I ≡ At p → callImage call I ≡ lifted I p (callArea call (areaOf I (At p)))
   call-image p e =
       split-check (callCheck call) (λ w. image-named w ∙ ap (callFound call I) e)
-      (λ at w. image-misnamed at w ∙ (λ i. record { told = refusal BadName (lent call); image = sym (area-same I p e) i })
+      (λ at w. image-misnamed at w ∙ (λ i. record { told = refusal (BadName at) (lent call); image = sym (area-same I p e) i })
       ∙ ap (lifted I p) (sym (call-misnamed call (areaOf I (At p)) at w)))
 
   -- where nothing is found, the image stays

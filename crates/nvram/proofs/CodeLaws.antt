@@ -130,7 +130,7 @@ module _ (name : List ℕ) (e : Error) where
   pub good-second : Good ≡ nameCheck name → e ≡ nameFirst (nameCheck name) e
   good-second q = λ i. nameFirst (q i) e
 
-  pub bad-first : (k : ℕ) → Wrong k ≡ nameCheck name → BadName ≡ nameFirst (nameCheck name) e
+  pub bad-first : (k : ℕ) → Wrong k ≡ nameCheck name → BadName k ≡ nameFirst (nameCheck name) e
   bad-first k q = λ i. nameFirst (q i) e
 
 module _ (I : List ℕ) (s e : ℕ) (k : AreaAt I s e) where
@@ -138,7 +138,7 @@ module _ (I : List ℕ) (s e : ℕ) (k : AreaAt I s e) where
   abbrev given : List ℕ
   given = take (e - s) (drop s I)
 
-  pub offset-at : (call : Call) (a : Reply) → a ≡ callArea call given .reply → s + replyOffset a ≤ length I
+  pub offset-at : (call : Call) (a : Reply) → a ≡ callArea call given .reply → s + replyOffset a ≤ length I + 31
   offset-at call a q =
       let b : length given ≤ e - s = omega (arith, length-take (e - s) (drop s I)) in
       let i = reply-inside call given in
@@ -165,7 +165,7 @@ module _ (I : List ℕ) (s e : ℕ) (k : AreaAt I s e) where
       (λ i. refusal (m i) [])
       ∙ ((λ i. toldAt s (countReply (sym h i)) []) ∙ ((λ i. toldAt s (q i) (sym (buffer-none a-count given) i)) ∙ answer-at count I s e k))
 
-  pub count-offset : (a : Counted) (x : Error) → countReply a ≡ callArea count given .reply → a ≡ Counted.Refused x → s + offsetOf x ≤ length I
+  pub count-offset : (a : Counted) (x : Error) → countReply a ≡ callArea count given .reply → a ≡ Counted.Refused x → s + offsetOf x ≤ length I + 31
   count-offset a x q h = let z = ap (λ (r : Counted). replyOffset (countReply r)) h in omega (arith, offset-at count (countReply a) q)
 
   module _ (name buffer : List ℕ) (a : Fetched) (q : readReply a ≡ callArea (read name buffer) given .reply) where
@@ -180,7 +180,7 @@ module _ (I : List ℕ) (s e : ℕ) (k : AreaAt I s e) where
         (λ i. refusal (m i) after)
         ∙ ((λ i. toldAt s (readReply (sym h i)) after) ∙ ((λ i. toldAt s (q i) (b i)) ∙ answer-at (read name buffer) I s e k))
 
-    pub read-offset : (x : Error) → a ≡ Fetched.Refused x → s + offsetOf x ≤ length I
+    pub read-offset : (x : Error) → a ≡ Fetched.Refused x → s + offsetOf x ≤ length I + 31
     read-offset x h = let z = ap (λ (r : Fetched). replyOffset (readReply r)) h in omega (arith, offset-at (read name buffer) (readReply a) q)
 
 -- nothing was found

@@ -67,4 +67,4 @@ callFound call image (Refused e) = refusedCall e call image
 
 -- a call on an image: 11 first, then its length, its headers and `common`, then the area
 unfoldable pub callImage : Call → List ℕ → Result
-callImage call image = onCheck (callCheck call) (callFound call image (commonOf image)) (λ at. refusedCall BadName call image)
+callImage call image = onCheck (callCheck call) (callFound call image (commonOf image)) (λ at. refusedCall (BadName at) call image)

@@ -65,7 +65,7 @@ fn moved_error(e: Error, by: usize) -> Error
         Error::BadHeader { fault, at } => Error::BadHeader { fault, at },
         Error::NoPartition => Error::NoPartition,
         Error::BadArea { fault, at } => Error::BadArea { fault, at: by + at },
-        Error::BadName => Error::BadName,
+        Error::BadName { at } => Error::BadName { at },
         Error::NoVariable => Error::NoVariable,
         Error::NoRoom => Error::NoRoom,
         Error::ShortBuffer => Error::ShortBuffer,
@@ -88,7 +88,7 @@ fn name_first(name: &[u8], e: Error) -> Error
     ensures { λ r. ⌜ r ≡ nameFirst (nameCheck (now (name .entry))) e ⌝ }
 {
     match names::check(name) {
-        NameCheck::Wrong { at: _ } => Error::BadName,
+        NameCheck::Wrong { at } => Error::BadName { at },
         NameCheck::Good => e,
     }
 }

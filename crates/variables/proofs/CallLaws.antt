@@ -1,18 +1,19 @@
 -- What a call on an area comes to: 11 by the caller's name, a fault of the area, or the outcome on its pairs, case by case.
 use Prim.Native.Nat.{ℕ, _+_, _≤_, _<_}
-use mathlib.Core.Path.{_≡_, refl, ap, _∙_}
+use mathlib.Core.Path.{_≡_, refl, sym, ap, _∙_}
 use mathlib.Core.List.{List, []}
 use native.Mathlib.Decide.{decLe}
 use native.Mathlib.Omega.{arith}
 use lib.ListN.{length}
 use borrow.Author.Tests.{lt-ltb, le-ltb}
 use Rattle.lists.specs.Pasted.{pasted}
+use Rattle.lists.proofs.Tests.{clash}
 use Rattle.errors.specs.declared.AreaFault.{AreaFault}
 use Rattle.errors.specs.declared.Error.{Error}
 use Rattle.errors.specs.declared.Error.the-variants.{BadArea, BadName, NoVariable, NoRoom, ShortBuffer}
 use Rattle.names.specs.declared.NameCheck.the-variants.{Good, Wrong}
 use Rattle.names.specs.Name.{nameCheck}
-use Rattle.names.proofs.NameLaws.{split-check}
+use Rattle.names.proofs.NameLaws.{check-wrong-exactly, wrong-most, split-check}
 use Rattle.pairs.specs.Area.{Pair, pairsBytes, Parse, parsed, faulty, parse}
 use Rattle.variables.specs.Edits.{areaBytes, setPair, removePair, normalizePairs, Lookup, found, missing, lookup}
 use Rattle.pairs.proofs.FaultLaws.{fault-inside}
@@ -34,6 +35,12 @@ pub check-count : callCheck count ≡ Good
 unfolding callCheck
 check-count = refl
 
+-- an index that is answered is one of 32
+check-index : (call : Call) (at : ℕ) → callCheck call ≡ Wrong at → at ≤ 31
+check-index (named name action) at e = wrong-most (check-wrong-exactly name at .0 (sym (check-named name action) ∙ e))
+check-index normalize at e = clash (cc (check-normalize))
+check-index count at e = clash (cc (check-count))
+
 -- ---- an area
 
 pub split-parse : {A : Type 0} (x : Parse) → ((ps : List Pair) → x ≡ parsed ps → A) → ((f : AreaFault) (at : ℕ) → x ≡ faulty f at → A) → A
@@ -41,7 +48,7 @@ split-parse (parsed ps) g h = g ps refl
 split-parse (faulty f at) g h = h f at refl
 
 module _ (call : Call) (area : List ℕ) where
-  pub call-misnamed : (at : ℕ) → callCheck call ≡ Wrong at → callArea call area ≡ refuse BadName call area
+  pub call-misnamed : (at : ℕ) → callCheck call ≡ Wrong at → callArea call area ≡ refuse (BadName at) call area
   unfolding callArea
   call-misnamed at n = rw n
 
@@ -61,7 +68,7 @@ module _ (call : Call) (area : List ℕ) where
   call-cases P r p =
       split-check (callCheck call)
       (λ n. split-parse (parse area) (λ ps h. rw (call-parsed n ps h) (p ps)) (λ f at h. rw (call-faulty n f at h) (r (BadArea f at))))
-      (λ at n. rw (call-misnamed at n) (r BadName))
+      (λ at n. rw (call-misnamed at n) (r (BadName at)))
 
 -- ---- each call on pairs
 
@@ -173,10 +180,11 @@ pairs-offset (named name (readInto buffer)) ps area = read-cases NoOffset ps are
 pairs-offset normalize ps area = rw (normalize-done ps area) refl
 pairs-offset count ps area = rw (count-done ps area) refl
 
-pub reply-inside : (call : Call) (area : List ℕ) → replyOffset (callArea call area .reply) ≤ length area
+-- or in the caller's name
+pub reply-inside : (call : Call) (area : List ℕ) → replyOffset (callArea call area .reply) ≤ length area + 31
 reply-inside call area =
     split-check (callCheck call)
     (λ n. split-parse (parse area)
     (λ ps h. rw (call-parsed call area n ps h) (omega (arith, pairs-offset call ps area)))
-    (λ f at h. rw (call-faulty call area n f at h) (fault-inside area f at h)))
-    (λ at n. rw (call-misnamed call area at n) (omega arith))
+    (λ f at h. rw (call-faulty call area n f at h) (omega (arith, fault-inside area f at h))))
+    (λ at n. rw (call-misnamed call area at n) (omega (arith, check-index call at n)))

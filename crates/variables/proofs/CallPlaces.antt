@@ -74,7 +74,7 @@ pub record NamedPairs (area name : List ℕ) (n used : ℕ) (place : Place) : Ty
   pub scanned : PairsOf (parse area) (findAt area name) n used place
 
 module _ (area name : List ℕ) where
-  pub scan-misnamed : (k : ℕ) → Wrong k ≡ nameCheck name → Refused BadName ≡ namedScan area name
+  pub scan-misnamed : (k : ℕ) → Wrong k ≡ nameCheck name → Refused (BadName k) ≡ namedScan area name
   unfolding namedScan
   scan-misnamed k w = rw (sym w)
 
@@ -87,7 +87,7 @@ module _ (area name : List ℕ) where
   named-pairs n used place e =
       split-check (nameCheck name)
       (λ t. record { good = t; scanned = scanned-pairs (parse area) (findAt area name) n used place (rw t at e) })
-      (λ at t. let f : Pairs n used place ≡ Refused BadName = rw t at e in clash cc)
+      (λ at t. let f : Pairs n used place ≡ Refused (BadName at) = rw t at e in clash cc)
 
 module _ (name : List ℕ) (action : Action) (area : List ℕ) where
   pub call-refused : (k : Error) → Refused k ≡ namedScan area name → callArea (named name action) area ≡ refuse k (named name action) area
@@ -96,8 +96,8 @@ module _ (name : List ℕ) (action : Action) (area : List ℕ) where
       let call : Call = named name action in
       split-check (nameCheck name)
       (λ t. scan-faulty call area (findAt area name) k (check-named name action ∙ t) (rw t at e))
-      (λ at t. let f : Refused k ≡ Refused BadName = rw t at e in
-      let j : k ≡ BadName = cc in
+      (λ at t. let f : Refused k ≡ Refused (BadName at) = rw t at e in
+      let j : k ≡ BadName at = cc in
       call-misnamed call area at (check-named name action ∙ t) ∙ ap (λ (x : Error). refuse x call area) (sym j))
 
   pub call-scanned : (n used : ℕ) (place : Place) → Pairs n used place ≡ namedScan area name

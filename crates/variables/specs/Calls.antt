@@ -107,4 +107,4 @@ callBy (faulty f at) call area = refuse (BadArea f at) call area
 
 -- a call on an area: 11 first, then the area's faults
 unfoldable pub callArea : Call → List ℕ → Outcome
-callArea call area = onCheck (callCheck call) (callBy (parse area) call area) (λ at. refuse BadName call area)
+callArea call area = onCheck (callCheck call) (callBy (parse area) call area) (λ at. refuse (BadName at) call area)

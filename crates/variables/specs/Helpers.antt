@@ -18,7 +18,7 @@ use Rattle.variables.specs.Calls.{Reply, done, refused, Outcome, readBy}
 
 -- the scan of an area for a variable; 11 goes before the area's faults
 unfoldable pub namedScan : List ℕ → List ℕ → Scanned
-namedScan area name = onCheck (nameCheck name) (scannedOf (parse area) (findAt area name)) (λ at. Scanned.Refused BadName)
+namedScan area name = onCheck (nameCheck name) (scannedOf (parse area) (findAt area name)) (λ at. Scanned.Refused (BadName at))
 
 -- a place that was sought by some name
 pub record Sought (area : List ℕ) (place : Place) : Type 0 where

@@ -97,7 +97,7 @@ pub fn scan_named(area: &[u8], name: &[u8]) -> Scanned
     ensures { λ r. ⌜ r ≡ namedScan (now (area .entry)) (now (name .entry)) ⌝ }
 {
     match names::check(name) {
-        NameCheck::Wrong { at: _ } => Scanned::Refused(Error::BadName),
+        NameCheck::Wrong { at } => Scanned::Refused(Error::BadName { at }),
         NameCheck::Good => pairs::scan(area, name),
     }
 }

@@ -16,8 +16,11 @@ enum-told-2 c = search needs
 enum-known-e-2 : tie.Need-enum-known-e-2
 enum-known-e-2 c = search needs
 
-add-t8 : tie.Need-add-t8
-add-t8 c = let h = rw (c .before .e2 .given .1) at (c .before .before .before .pre) in omega arith
+add-t9 : tie.Need-add-t9
+add-t9 c = let h = rw (c .before .e2 .given .1) at (c .before .before .before .pre) in omega arith
+
+enum-known-e-3 : tie.Need-enum-known-e-3
+enum-known-e-3 c = search needs
 
 enum-told-3 : tie.Need-enum-told-3
 enum-told-3 c = search needs
@@ -27,9 +30,6 @@ enum-told-4 c = search needs
 
 enum-told-5 : tie.Need-enum-told-5
 enum-told-5 c = search needs
-
-enum-told-6 : tie.Need-enum-told-6
-enum-told-6 c = search needs
 
 returns : tie.Need-returns
 returns c = search needs
@@ -44,7 +44,7 @@ returns-4 : tie.Need-returns-4
 returns-4 c = rw (c .before .e2 .given .1)
 
 returns-5 : tie.Need-returns-5
-returns-5 c = search needs
+returns-5 c = rw (c .before .e3 .given .1)
 
 returns-6 : tie.Need-returns-6
 returns-6 c = search needs
@@ -63,11 +63,11 @@ moved-error-spec =
     enum-known-e
     enum-told-2
     enum-known-e-2
-    add-t8
+    add-t9
+    enum-known-e-3
     enum-told-3
     enum-told-4
     enum-told-5
-    enum-told-6
     returns
     returns-2
     returns-3
