@@ -20,7 +20,7 @@ use Rattle.values.specs.Value.{runByte, run, decodeFrom, decode, mark, fullEsca
 use Rattle.pairs.specs.Scan.{storedName, scanName, scanValue, pair, wrongName, standAt}
 use Rattle.pairs.specs.Area.{pairBytes, pairsBytes, parseFrom, parse}
 use Rattle.variables.specs.Edits.{areaBytes, setPair, normalizePairs, lookup}
-use Rattle.variables.specs.Calls.{set, read, normalize, count, callCheck, setIn, callPairs, callArea}
+use Rattle.variables.specs.Calls.{set, remove, read, normalize, count, callCheck, setIn, callPairs, callArea}
 use Rattle.nvram.specs.Common.{commonOf}
 use Rattle.nvram.specs.Calls.{Told, callImage}
 
@@ -116,6 +116,39 @@ examples = record {
   ten-8 = refl;
   ten-9 = refl;
   eleven = refl;
+}
+
+-- bad names: 11 answers the index of the first wrong byte, before every other code, and 8 answers it of a stored name
+pub record WrongNames : Type 0 where
+  pub none : callImage (remove []) E .told ≡ told 11 0 0
+  pub first : callImage (set (0x41 ∷ 0x61 ∷ []) []) E .told ≡ told 11 0 0
+  -- `aA/`: two bytes are wrong
+  pub second : callImage (set (0x61 ∷ 0x41 ∷ 0x2F ∷ []) []) E .told ≡ told 11 1 0
+  -- `aa=`
+  pub equals : callImage (read (0x61 ∷ 0x61 ∷ 0x3D ∷ []) []) E .told ≡ told 11 2 0
+  pub long : callImage (remove (replicate 32 0x61)) E .told ≡ told 11 31 0
+  pub longer : callImage (remove (replicate 32 0x61 ++ 0x41 ∷ [])) E .told ≡ told 11 31 0
+  pub no-image : callImage (remove (0x61 ∷ 0x41 ∷ [])) [] .told ≡ told 11 1 0
+  -- the stored pairs `b=` and `aA/=`
+  pub stored : callImage count (holding (0x62 ∷ 0x3D ∷ 0x00 ∷ 0x61 ∷ 0x41 ∷ 0x2F ∷ 0x3D ∷ replicate 9 0x00)) .told ≡ told 8 20 0
+  -- the stored name of a pair is empty
+  pub stored-none : callImage count (holding (0x62 ∷ 0x3D ∷ 0x00 ∷ 0x3D ∷ replicate 12 0x00)) .told ≡ told 8 19 0
+
+-- they hold, by computing
+pub wrong-names : WrongNames
+unfolding callImage commonOf callArea callPairs callCheck nameCheck nameCheckFrom nameByte parse parseFrom standAt storedName scanName
+    scanValue stands sameBytes pasted walk walkFrom stepAt allowedLength partitionOf pastOf validityAt validityOf headerAt nameAt sumFrom
+    padded sameName matches firstMatch findBy findOf areaOf
+wrong-names = record {
+  none = refl;
+  first = refl;
+  second = refl;
+  equals = refl;
+  long = refl;
+  longer = refl;
+  no-image = refl;
+  stored = refl;
+  stored-none = refl;
 }
 
 -- the limits, each at its last allowed number and one step past it

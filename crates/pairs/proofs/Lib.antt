@@ -1,4 +1,5 @@
 pub mod NameScans
+pub mod StoredNames
 pub mod ScanLaws
 pub mod ParseLaws
 pub mod StandsLaws

@@ -51,7 +51,7 @@ pub stored-next : (b : ℕ) (bs : List ℕ) → b ≢ 0x3D → storedName (b ∷
 unfolding storedName
 stored-next b bs h = rw (ne-eqb b 0x3D h, storedName)
 
-up-next : {name bs : List ℕ} (b : ℕ) → b ≢ 0x3D → UpToEquals name bs → UpToEquals (b ∷ name) (b ∷ bs)
+pub up-next : {name bs : List ℕ} (b : ℕ) → b ≢ 0x3D → UpToEquals name bs → UpToEquals (b ∷ name) (b ∷ bs)
 up-next b h (ended {name = name} rest a) = ended {name = b ∷ name} rest (h, a)
 up-next b h (unended {name = name} a) = unended {name = b ∷ name} (h, a)
 
