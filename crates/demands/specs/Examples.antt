@@ -17,7 +17,7 @@ use Rattle.partitions.specs.Examples.{E, commonCovered, freeCovered}
 use Rattle.names.specs.declared.NameCheck.the-variants.{Good, Wrong}
 use Rattle.names.specs.Name.{nameByte, nameCheckFrom, nameCheck}
 use Rattle.values.specs.Value.{runByte, run, decodeFrom, decode, mark, fullEscapes, restEscape, runBytes, encodeFrom, encode}
-use Rattle.pairs.specs.Scan.{storedName, scanName, scanValue, pair, wrongName, standAt}
+use Rattle.pairs.specs.Scan.{storedName, scanName, scanValue, pair, cut, wrongName, standAt}
 use Rattle.pairs.specs.Area.{pairBytes, pairsBytes, parseFrom, parse}
 use Rattle.variables.specs.Edits.{areaBytes, setPair, normalizePairs, lookup}
 use Rattle.variables.specs.Calls.{set, remove, read, normalize, count, callCheck, setIn, callPairs, callArea}
@@ -118,7 +118,7 @@ examples = record {
   eleven = refl;
 }
 
--- bad names: 11 answers the index of the first wrong byte, before every other code, and 8 answers it of a stored name
+-- wrong names: 11 answers the index of the first wrong byte, before every other code, and 8 answers it of a stored name
 pub record WrongNames : Type 0 where
   pub none : callImage (remove []) E .told ≡ told 11 0 0
   pub first : callImage (set (0x41 ∷ 0x61 ∷ []) []) E .told ≡ told 11 0 0
@@ -128,10 +128,13 @@ pub record WrongNames : Type 0 where
   pub equals : callImage (read (0x61 ∷ 0x61 ∷ 0x3D ∷ []) []) E .told ≡ told 11 2 0
   pub long : callImage (remove (replicate 32 0x61)) E .told ≡ told 11 31 0
   pub longer : callImage (remove (replicate 32 0x61 ++ 0x41 ∷ [])) E .told ≡ told 11 31 0
+  pub long-second : callImage (remove (0x61 ∷ 0x41 ∷ replicate 32 0x61)) E .told ≡ told 11 1 0
   pub no-image : callImage (remove (0x61 ∷ 0x41 ∷ [])) [] .told ≡ told 11 1 0
   -- the stored pairs `b=` and `aA/=`
   pub stored : callImage count (holding (0x62 ∷ 0x3D ∷ 0x00 ∷ 0x61 ∷ 0x41 ∷ 0x2F ∷ 0x3D ∷ replicate 9 0x00)) .told ≡ told 8 20 0
-  -- the stored name of a pair is empty
+  -- a 0x00 stands in the stored name
+  pub stored-zero : callImage count (holding (0x62 ∷ 0x3D ∷ 0x00 ∷ 0x61 ∷ 0x00 ∷ 0x3D ∷ replicate 10 0x00)) .told ≡ told 8 20 0
+  -- the stored name is empty
   pub stored-none : callImage count (holding (0x62 ∷ 0x3D ∷ 0x00 ∷ 0x3D ∷ replicate 12 0x00)) .told ≡ told 8 19 0
 
 -- they hold, by computing
@@ -146,8 +149,10 @@ wrong-names = record {
   equals = refl;
   long = refl;
   longer = refl;
+  long-second = refl;
   no-image = refl;
   stored = refl;
+  stored-zero = refl;
   stored-none = refl;
 }
 
@@ -161,6 +166,8 @@ pub record Limits : Type 0 where
   pub name-over : nameCheck (replicate 32 0x61) ≡ Wrong 31
   pub stored-name : standAt (replicate 31 0x61 ++ 0x3D ∷ 0x00 ∷ []) ≡ pair (replicate 31 0x61) [] []
   pub stored-name-over : standAt (replicate 32 0x61 ++ 0x3D ∷ 0x00 ∷ []) ≡ wrongName 31
+  pub stored-name-cut : standAt (replicate 31 0x61) ≡ cut
+  pub stored-name-cut-over : standAt (replicate 32 0x61) ≡ wrongName 31
 
 -- they hold, by computing
 pub limits : Limits
@@ -174,4 +181,6 @@ limits = record {
   name-over = refl;
   stored-name = refl;
   stored-name-over = refl;
+  stored-name-cut = refl;
+  stored-name-cut-over = refl;
 }

@@ -100,7 +100,7 @@ actionModel (setTo value) name m = setModel (setEntry name value (m .entries)) m
 actionModel removal name m = removeModel (valueOf name (m .entries)) name m
 actionModel (readInto buffer) name m = readModel (valueOf name (m .entries)) buffer m
 
--- one call; 11 if the name breaks the name rule, with the index
+-- one call; 11 if the name breaks the name rule, at the index where it does so first
 unfoldable pub callModel : Call → Model → ModelResult
 callModel (named name action) m = onCheck (nameCheck name) (actionModel action name m) (λ at. keeps (denies 11 at (lentBy action)) m)
 callModel normalize m = becomes (newSizes (m .entries)) m

@@ -42,7 +42,7 @@ offsetOf NoVariable = 0
 offsetOf NoRoom = 0
 offsetOf ShortBuffer = 0
 
--- an error of a call on a variable area that begins at n: the area's faults get their offsets in the image
+-- an error of a call on a variable area that begins at n: the area's faults get their offsets in the image, an index in a name stays
 abbrev pub moved : ℕ → Error → Error
 moved n ImageLength = ImageLength
 moved n (BadHeader fault at) = BadHeader fault at

@@ -13,7 +13,7 @@ use Rattle.lists.proofs.Tests.{split, clash}
 use Rattle.lists.proofs.ListLaws.{drop-next}
 use Rattle.names.specs.declared.NameCheck.the-variants.{Good, Wrong}
 use Rattle.names.specs.Name.{nameByte, nameCheck}
-use Rattle.names.specs.Helpers.{allowedAhead, checkAllowed}
+use Rattle.names.specs.Helpers.{allowedAhead, checkByAllowed}
 use Rattle.names.proofs.Marks.{marks, marked}
 use Rattle.names.proofs.NameLaws.{Checked, checked-none, checked-next, checked-long, checked-refused, checked-empty, checked-all}
 
@@ -35,7 +35,7 @@ ahead-short (b ∷ bs) =
     split (nameByte b) (λ t. omega (arith, ahead-next b bs t, ahead-short bs)) (λ t. omega (arith, ahead-here b bs t))
 
 -- the bytes before it are allowed
-ahead-before : (l : List ℕ) (k : ℕ) → k < allowedAhead l → nameByte (getD l k 0) ≡ true
+pub ahead-before : (l : List ℕ) (k : ℕ) → k < allowedAhead l → nameByte (getD l k 0) ≡ true
 ahead-before [] k h = absurd (omega (arith, ahead-none))
 ahead-before (b ∷ bs) zero h = split (nameByte b) (λ t. t) (λ t. absurd (omega (arith, ahead-here b bs t)))
 ahead-before (b ∷ bs) (suc k) h =
@@ -44,26 +44,12 @@ ahead-before (b ∷ bs) (suc k) h =
     (λ t. absurd (omega (arith, ahead-here b bs t)))
 
 -- the byte there is not
-ahead-there : (l : List ℕ) → allowedAhead l < length l → nameByte (getD l (allowedAhead l) 0) ≡ false
+pub ahead-there : (l : List ℕ) → allowedAhead l < length l → nameByte (getD l (allowedAhead l) 0) ≡ false
 ahead-there [] h = absurd (omega arith)
 ahead-there (b ∷ bs) h =
     split (nameByte b)
     (λ t. rw (ahead-next b bs t) (ahead-there bs (omega (arith, ahead-next b bs t))))
     (λ t. rw (ahead-here b bs t) t)
-
--- ---- at the offset r of the first byte from `from` on that is not allowed
-
-module _ (s : List ℕ) (from : ℕ) {r : ℕ} (e : r ≡ from + allowedAhead (drop from s)) where
-  pub end-before : (j : ℕ) → from ≤ j → j < r → nameByte (getD s j 0) ≡ true
-  end-before j h k =
-      let q : from + (j - from) ≡ j = omega arith in
-      ap (λ (m : ℕ). nameByte (getD s m 0)) (sym q) ∙ ap nameByte (sym (getD-drop from s (j - from) 0))
-      ∙ ahead-before (drop from s) (j - from) (omega arith)
-
-  pub end-there : r < length s → nameByte (getD s r 0) ≡ false
-  end-there h =
-      ap (λ (m : ℕ). nameByte (getD s m 0)) e ∙ ap nameByte (sym (getD-drop from s (allowedAhead (drop from s)) 0))
-      ∙ ahead-there (drop from s) (omega (arith, length-drop from s))
 
 -- ---- the turns of the loop
 
@@ -118,26 +104,26 @@ module _ (name : List ℕ) (n : ℕ) (e : n ≡ allowedAhead name) where
 -- ---- the check by the allowed bytes at a name's start
 
 module _ (n : ℕ) (whole : Bool) where
-  pub allowed-long : 31 < n → Wrong 31 ≡ checkAllowed n whole
-  unfolding checkAllowed
+  pub allowed-long : 31 < n → Wrong 31 ≡ checkByAllowed n whole
+  unfolding checkByAllowed
   allowed-long h = rw (lt-ltb 31 n h)
 
   module _ (h : n ≤ 31) where
-    pub allowed-none : n ≡ 0 → Wrong 0 ≡ checkAllowed n whole
-    unfolding checkAllowed
+    pub allowed-none : n ≡ 0 → Wrong 0 ≡ checkByAllowed n whole
+    unfolding checkByAllowed
     allowed-none z = rw (le-ltb 31 n h, eq-eqb n 0 z)
 
-    pub allowed-whole : n ≢ 0 → whole ≡ true → Good ≡ checkAllowed n whole
-    unfolding checkAllowed
+    pub allowed-whole : n ≢ 0 → whole ≡ true → Good ≡ checkByAllowed n whole
+    unfolding checkByAllowed
     allowed-whole z t = rw (le-ltb 31 n h, ne-eqb n 0 z, t)
 
-    pub allowed-part : n ≢ 0 → whole ≡ false → Wrong n ≡ checkAllowed n whole
-    unfolding checkAllowed
+    pub allowed-part : n ≢ 0 → whole ≡ false → Wrong n ≡ checkByAllowed n whole
+    unfolding checkByAllowed
     allowed-part z t = rw (le-ltb 31 n h, ne-eqb n 0 z, t)
 
 -- THE CHECK OF A NAME by the allowed bytes at its start, and whether it has others
 pub check-by-allowed : (name : List ℕ) (n : ℕ) (whole : Bool) → n ≡ allowedAhead name
-    → (whole ≡ true → length name ≤ n) → (whole ≡ false → n < length name) → checkAllowed n whole ≡ nameCheck name
+    → (whole ≡ true → length name ≤ n) → (whole ≡ false → n < length name) → checkByAllowed n whole ≡ nameCheck name
 check-by-allowed name n whole e f g =
     split (ltb 31 n)
     (λ t. sym (allowed-long n whole (ltb-true 31 n t)) ∙ check-31 name n e (ltb-true 31 n t))
@@ -150,24 +136,24 @@ check-by-allowed name n whole e f g =
         (λ t. check-empty name n e h (f t) z)
         (λ t. ap Wrong (sym z) ∙ check-there name n e h (g t))
 
-    some : n ≤ 31 → n ≢ 0 → checkAllowed n whole ≡ nameCheck name
+    some : n ≤ 31 → n ≢ 0 → checkByAllowed n whole ≡ nameCheck name
     some h z =
         split whole
         (λ t. sym (allowed-whole n whole h z t) ∙ check-kept name n e h (f t) z)
         (λ t. sym (allowed-part n whole h z t) ∙ check-there name n e h (g t))
 
 -- so of a name whose bytes are looked at from the first
-pub check-whole : (name : List ℕ) (n : ℕ) → n ≡ 0 + allowedAhead name → checkAllowed n (leb (length name) n) ≡ nameCheck name
+pub check-whole : (name : List ℕ) (n : ℕ) → n ≡ 0 + allowedAhead name → checkByAllowed n (leb (length name) n) ≡ nameCheck name
 check-whole name n e = check-by-allowed name n (leb (length name) n) (omega arith) (leb-true (length name) n) (leb-false (length name) n)
 
 -- only a name that has no other byte is good
-pub allowed-good : (n : ℕ) (whole : Bool) → Good ≡ checkAllowed n whole → whole ≡ true
-unfolding checkAllowed
+pub allowed-good : (n : ℕ) (whole : Bool) → Good ≡ checkByAllowed n whole → whole ≡ true
+unfolding checkByAllowed
 allowed-good n true e = refl
 allowed-good n false e = split (ltb 31 n) (λ t. clash (cc)) (λ t. split (eqb n 0) (λ u. clash (cc)) (λ u. clash (cc)))
 
 -- an index that is answered is that of an allowed byte or of the one after them
-pub allowed-index : (n : ℕ) (whole : Bool) (at : ℕ) → Wrong at ≡ checkAllowed n whole → at ≤ n
+pub allowed-index : (n : ℕ) (whole : Bool) (at : ℕ) → Wrong at ≡ checkByAllowed n whole → at ≤ n
 allowed-index n whole at e =
     split (ltb 31 n)
     (λ t. let q = e ∙ sym (allowed-long n whole (ltb-true 31 n t)) in let p : at ≡ 31 = cc in omega (arith, ltb-true 31 n t))

@@ -1,4 +1,4 @@
--- The laws of a variable's name: the definitions that compute, against the rules; and the turns of the loop that checks a name.
+-- The laws of a variable's name: the definitions that compute, against the rules; and the check byte by byte.
 use Prim.Native.Nat.{ℕ, zero, suc, _+_, _≤_, _<_}
 use mathlib.Core.Path.{_≡_, refl, sym, ap, _∙_, subst}
 use mathlib.Core.Bool.{true, false, cond, _&&_}
@@ -75,19 +75,19 @@ sixty-one = refl
 
 -- ---- one step of a check
 
-pub check-none : (i : ℕ) → i ≢ 0 → nameCheckFrom i [] ≡ Good
+check-none : (i : ℕ) → i ≢ 0 → nameCheckFrom i [] ≡ Good
 unfolding nameCheckFrom
 check-none i h = rw (ne-eqb i 0 h)
 
-pub check-long : (i b : ℕ) (bs : List ℕ) → 31 ≤ i → nameCheckFrom i (b ∷ bs) ≡ Wrong i
+check-long : (i b : ℕ) (bs : List ℕ) → 31 ≤ i → nameCheckFrom i (b ∷ bs) ≡ Wrong i
 unfolding nameCheckFrom
 check-long i b bs h = rw (le-ltb i 31 h)
 
-pub check-allowed : (i b : ℕ) (bs : List ℕ) → i < 31 → nameByte b ≡ true → nameCheckFrom i (b ∷ bs) ≡ nameCheckFrom (i + 1) bs
+check-next : (i b : ℕ) (bs : List ℕ) → i < 31 → nameByte b ≡ true → nameCheckFrom i (b ∷ bs) ≡ nameCheckFrom (i + 1) bs
 unfolding nameCheckFrom
-check-allowed i b bs h e = rw (lt-ltb i 31 h, e)
+check-next i b bs h e = rw (lt-ltb i 31 h, e)
 
-pub check-refused : (i b : ℕ) (bs : List ℕ) → nameByte b ≡ false → nameCheckFrom i (b ∷ bs) ≡ Wrong i
+check-refused : (i b : ℕ) (bs : List ℕ) → nameByte b ≡ false → nameCheckFrom i (b ∷ bs) ≡ Wrong i
 unfolding nameCheckFrom
 check-refused i b bs e = split (ltb i 31) (λ t. rw (t, e)) (λ t. rw t)
 
@@ -96,7 +96,7 @@ check-refused i b bs e = split (ltb i 31) (λ t. rw (t, e)) (λ t. rw t)
 good-from : (i : ℕ) (bs : List ℕ) → i ≤ 31 → 1 ≤ i + length bs → i + length bs ≤ 31 → Every NameByte bs → nameCheckFrom i bs ≡ Good
 good-from i [] h lo hi r = check-none i (omega arith)
 good-from i (b ∷ bs) h lo hi r =
-    check-allowed i b bs (omega arith) (rule-byte b (r .0)) ∙ good-from (i + 1) bs (omega arith) (omega arith) (omega arith) (r .1)
+    check-next i b bs (omega arith) (rule-byte b (r .0)) ∙ good-from (i + 1) bs (omega arith) (omega arith) (omega arith) (r .1)
 
 -- what a check that found nothing wrong has shown
 record Kept (i : ℕ) (bs : List ℕ) : Type 0 where
@@ -110,7 +110,7 @@ kept-from i [] h e = split (eqb i 0) (λ t. clash (cc)) (λ t. record { some = o
 kept-from i (b ∷ bs) h e =
     split (ltb i 31)
     (λ t. split (nameByte b)
-    (λ u. let k = kept-from (i + 1) bs (omega (arith, ltb-true i 31 t)) (sym (check-allowed i b bs (ltb-true i 31 t) u) ∙ e) in
+    (λ u. let k = kept-from (i + 1) bs (omega (arith, ltb-true i 31 t)) (sym (check-next i b bs (ltb-true i 31 t) u) ∙ e) in
     record { some = omega arith; fits = omega (arith, k .fits); all = (byte-rule b u, k .all) })
     (λ u. clash (cc)))
     (λ t. clash (cc))
@@ -129,7 +129,7 @@ split-check Good f g = f refl
 split-check (Wrong at) f g = g at refl
 
 -- a check that finds something wrong is of a name that breaks the rule
-pub check-wrong : {name : List ℕ} {at : ℕ} → nameCheck name ≡ Wrong at → ¬ (NameRule name)
+check-wrong : {name : List ℕ} {at : ℕ} → nameCheck name ≡ Wrong at → ¬ (NameRule name)
 check-wrong {name} e r = clash (cc (check-good-exactly name .1 r))
 
 -- ---- the name that is wrong
@@ -160,7 +160,7 @@ wrong-from j (b ∷ bs) (suc k) w =
       before = λ m h. w .before (suc m) (omega arith);
       there = there-as (getD bs k 0) (j + suc k) (j + 1 + k) (omega arith) (w .there);
     } in
-    check-allowed j b bs (omega (arith, w .most)) (rule-byte b (w .before 0 (omega arith))) ∙ wrong-from (j + 1) bs k next ∙ ap Wrong e
+    check-next j b bs (omega (arith, w .most)) (rule-byte b (w .before 0 (omega arith))) ∙ wrong-from (j + 1) bs k next ∙ ap Wrong e
 
 -- the byte of index i is the first wrong one, or there is none and i is 0
 data Breaks (j : ℕ) (bs : List ℕ) (i : ℕ) : Type 0 where
@@ -196,7 +196,7 @@ breaks-from j (b ∷ bs) i h e =
     split (ltb j 31)
     (λ t. split (nameByte b)
     (λ u. breaks-next j b bs i (byte-rule b u)
-    (breaks-from (j + 1) bs i (omega (arith, ltb-true j 31 t)) (sym (check-allowed j b bs (ltb-true j 31 t) u) ∙ e)))
+    (breaks-from (j + 1) bs i (omega (arith, ltb-true j 31 t)) (sym (check-next j b bs (ltb-true j 31 t) u) ∙ e)))
     (λ u. breaks-here j b bs i h (sym (check-refused j b bs u) ∙ e) (inl (λ n. not-so (sym u ∙ rule-byte b n)))))
     (λ t. breaks-here j b bs i h (sym (check-long j b bs (ltb-false j 31 t)) ∙ e) (inr (omega (arith, ltb-false j 31 t))))
 
@@ -220,15 +220,15 @@ unfolding nameCheck
 check-wrong-exactly name i = (λ e. first-wrong name i (breaks-from 0 name i (omega arith) e), wrong-first name i)
 
 -- A NAME IS WRONG SOMEWHERE exactly when it breaks the rule
-pub wrong-exactly : (name : List ℕ) → ((i : ℕ) × FirstWrong name i) ↔ (¬ (NameRule name))
-wrong-exactly name = (
+pub wrong-somewhere : (name : List ℕ) → ((i : ℕ) × FirstWrong name i) ↔ (¬ (NameRule name))
+wrong-somewhere name = (
   λ w. check-wrong (check-wrong-exactly name (w .0) .1 (w .1)),
   λ n. split-check (nameCheck name) (λ e. absurd (n (check-good-exactly name .0 e))) (λ i e. (i, check-wrong-exactly name i .0 e)),
 )
 
 -- AND AT ONE INDEX
-pub wrong-once : {name : List ℕ} {i j : ℕ} → FirstWrong name i → FirstWrong name j → i ≡ j
-wrong-once {name} {i} {j} v w =
+pub wrong-at-one : {name : List ℕ} {i j : ℕ} → FirstWrong name i → FirstWrong name j → i ≡ j
+wrong-at-one {name} {i} {j} v w =
     let e : Wrong i ≡ Wrong j = sym (check-wrong-exactly name i .1 v) ∙ check-wrong-exactly name j .1 w in
     cc
 
@@ -236,7 +236,7 @@ pub wrong-most : {name : List ℕ} {i : ℕ} → FirstWrong name i → i ≤ 31
 wrong-most (empty e f) = omega arith
 wrong-most (byte h l before q) = l
 
--- ---- the loop: the bytes before i are checked
+-- ---- the check byte by byte: the bytes before i are checked
 
 pub record Checked (name : List ℕ) (i : ℕ) : Type 0 where
   pub left : nameCheck name ≡ nameCheckFrom i (drop i name)
@@ -248,7 +248,7 @@ checked-none name = record { left = refl }
 module _ {name : List ℕ} {i : ℕ} (s : Checked name i) where
   pub checked-next : i < length name → i < 31 → nameByte (getD name i 0) ≡ true → Checked name (i + 1)
   checked-next h l e =
-      record { left = s .left ∙ ap (nameCheckFrom i) (drop-next name i h) ∙ check-allowed i (getD name i 0) (drop (i + 1) name) l e }
+      record { left = s .left ∙ ap (nameCheckFrom i) (drop-next name i h) ∙ check-next i (getD name i 0) (drop (i + 1) name) l e }
 
   pub checked-long : i < length name → i ≡ 31 → Wrong 31 ≡ nameCheck name
   checked-long h l =

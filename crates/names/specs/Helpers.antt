@@ -13,5 +13,5 @@ allowedAhead [] = 0
 allowedAhead (b ∷ bs) = elim (nameByte b) [ true ↦ suc (allowedAhead bs) | false ↦ 0 ]
 
 -- the check of a name that begins with so many allowed bytes; whole: it has no other byte
-unfoldable pub checkAllowed : ℕ → Bool → NameCheck
-checkAllowed allowed whole = cond (ltb 31 allowed) (Wrong 31) (cond (eqb allowed 0) (Wrong 0) (cond whole Good (Wrong allowed)))
+unfoldable pub checkByAllowed : ℕ → Bool → NameCheck
+checkByAllowed allowed whole = cond (ltb 31 allowed) (Wrong 31) (cond (eqb allowed 0) (Wrong 0) (cond whole Good (Wrong allowed)))

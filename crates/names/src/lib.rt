@@ -3,7 +3,7 @@ ghost use mathlib.Core.Path.{_≡_};
 ghost use Prim.Native.Nat.{_+_, _<_};
 ghost use lib.ListN.{drop};
 ghost use Rattle.names.specs.Name.{nameByte, nameCheck};
-ghost use Rattle.names.specs.Helpers.{allowedAhead, checkAllowed};
+ghost use Rattle.names.specs.Helpers.{allowedAhead, checkByAllowed};
 
 // What the check of a name finds.
 pub enum NameCheck {
@@ -305,8 +305,8 @@ pub fn name_end(s: &[u8], from: usize) -> usize
 }
 
 // The check of a name by the allowed bytes at its start; `whole`: it has no other byte.
-pub fn check_allowed(allowed: usize, whole: bool) -> NameCheck
-    ensures { λ r. ⌜ r ≡ checkAllowed allowed whole ⌝ }
+pub fn check_by_allowed(allowed: usize, whole: bool) -> NameCheck
+    ensures { λ r. ⌜ r ≡ checkByAllowed allowed whole ⌝ }
 {
     if 31 < allowed {
         return NameCheck::Wrong { at: 31 };
@@ -325,5 +325,5 @@ pub fn check(name: &[u8]) -> NameCheck
     ensures { λ r. ⌜ r ≡ nameCheck (now (name .entry)) ⌝ }
 {
     let end = name_end(name, 0);
-    check_allowed(end, name.len() <= end)
+    check_by_allowed(end, name.len() <= end)
 }

@@ -138,6 +138,7 @@ module _ (I : List ℕ) (s e : ℕ) (k : AreaAt I s e) where
   abbrev given : List ℕ
   given = take (e - s) (drop s I)
 
+  -- an offset in the area, or below 32 in the caller's name, is far below 2 ^ 64 when it is moved
   pub offset-at : (call : Call) (a : Reply) → a ≡ callArea call given .reply → s + replyOffset a ≤ length I + 31
   offset-at call a q =
       let b : length given ≤ e - s = omega (arith, length-take (e - s) (drop s I)) in

@@ -1,6 +1,6 @@
 pub mod NameScans
-pub mod StoredNames
 pub mod ScanLaws
+pub mod StoredNames
 pub mod ParseLaws
 pub mod StandsLaws
 pub mod EntryLaws

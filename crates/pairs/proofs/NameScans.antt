@@ -1,6 +1,6 @@
 -- What a scan of a stored name finds, by the check of the bytes up to its `=`.
 use Prim.Native.Nat.{ℕ}
-use mathlib.Core.Path.{_≡_, refl, sym, ap, _∙_}
+use mathlib.Core.Path.{_≡_, refl, ap, _∙_}
 use mathlib.Core.List.{List, [], _∷_, _++_}
 use mathlib.Core.Logic.{_≢_, _↔_}
 use native.Mathlib.Omega.{arith}
@@ -15,7 +15,7 @@ use Rattle.names.specs.Name.{nameCheck}
 use Rattle.names.specs.Rules.{NameByte, NameRule, FirstWrong}
 use Rattle.names.proofs.NameLaws.{check-good-exactly, check-wrong-exactly, split-check}
 use Rattle.pairs.specs.Scan.{Scan, ends, bad, short, and, storedName, pastName, scanName}
-use Rattle.pairs.specs.Rules.{UpToEquals, ended, unended}
+use Rattle.pairs.specs.Rules.{UpToEquals, by-equals, by-end}
 
 -- ---- one byte more
 
@@ -52,14 +52,14 @@ unfolding storedName
 stored-next b bs h = rw (ne-eqb b 0x3D h, storedName)
 
 pub up-next : {name bs : List ℕ} (b : ℕ) → b ≢ 0x3D → UpToEquals name bs → UpToEquals (b ∷ name) (b ∷ bs)
-up-next b h (ended {name = name} rest a) = ended {name = b ∷ name} rest (h, a)
-up-next b h (unended {name = name} a) = unended {name = b ∷ name} (h, a)
+up-next b h (by-equals {name = name} rest a) = by-equals {name = b ∷ name} rest (h, a)
+up-next b h (by-end {name = name} a) = by-end {name = b ∷ name} (h, a)
 
 stored-up : (bs : List ℕ) → UpToEquals (storedName bs) bs
-stored-up [] = rw stored-none (unended {name = []} tt)
+stored-up [] = rw stored-none (by-end {name = []} tt)
 stored-up (b ∷ bs) =
     split (eqb b 0x3D)
-    (λ t. rw (eqb-true b 0x3D t, stored-equals) (ended {name = []} bs tt))
+    (λ t. rw (eqb-true b 0x3D t, stored-equals) (by-equals {name = []} bs tt))
     (λ t. let h = eqb-false b 0x3D t in rw (stored-next b bs h) (up-next b h (stored-up bs)))
 
 stored-ended : (name rest : List ℕ) → Every (λ b. b ≢ 0x3D) name → storedName (name ++ 0x3D ∷ rest) ≡ name
@@ -71,8 +71,8 @@ stored-unended [] a = stored-none
 stored-unended (b ∷ name) a = stored-next b name (a .0) ∙ ap (λ (l : List ℕ). b ∷ l) (stored-unended name (a .1))
 
 up-stored : {name bs : List ℕ} → UpToEquals name bs → storedName bs ≡ name
-up-stored (ended {name = name} rest a) = stored-ended name rest a
-up-stored (unended {name = name} a) = stored-unended name a
+up-stored (by-equals {name = name} rest a) = stored-ended name rest a
+up-stored (by-end {name = name} a) = stored-unended name a
 
 -- THE STORED NAME is the bytes up to the first `=`, or all
 pub stored-exactly : (bs name : List ℕ) → (storedName bs ≡ name) ↔ UpToEquals name bs
@@ -120,8 +120,8 @@ pub data ScannedName : List ℕ → Scan → Type 0 where
   a-cut : {name : List ℕ} → NameRule name → ScannedName name short
 
 scanned-good : {name bs : List ℕ} → UpToEquals name bs → NameRule name → ScannedName bs (scanName bs)
-scanned-good (ended rest a) r = rw (scan-name rest r) (a-name rest r)
-scanned-good (unended a) r = rw (cut-scan r) (a-cut r)
+scanned-good (by-equals rest a) r = rw (scan-name rest r) (a-name rest r)
+scanned-good (by-end a) r = rw (cut-scan r) (a-cut r)
 
 -- AND NOTHING ELSE is found
 pub scanned-name : (bs : List ℕ) → ScannedName bs (scanName bs)

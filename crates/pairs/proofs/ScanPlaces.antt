@@ -14,7 +14,7 @@ use Rattle.lists.proofs.Tests.{split, clash}
 use Rattle.names.specs.declared.NameCheck.{NameCheck}
 use Rattle.names.specs.declared.NameCheck.the-variants as Names
 use Rattle.names.specs.Name.{nameByte, nameCheck}
-use Rattle.names.specs.Helpers.{allowedAhead, checkAllowed}
+use Rattle.names.specs.Helpers.{allowedAhead, checkByAllowed}
 use Rattle.names.proofs.NameLaws.{not-byte}
 use Rattle.names.proofs.AheadLaws.{ahead-none, ahead-here, ahead-next, ahead-short, check-by-allowed, allowed-good}
 use Rattle.lists.proofs.ListLaws.{drop-next}
@@ -22,7 +22,7 @@ use Rattle.lists.specs.Helpers.{untilEither}
 use Rattle.lists.proofs.FindLaws.{until-short, either-ahead, either-there, either-before}
 use Rattle.pairs.specs.declared.ScanEnd.the-variants.{At, Wrong, Cut}
 use Rattle.pairs.specs.Scan.{Scan, ends, bad, short, and, storedName, pastName, scanName, scanValue}
-use Rattle.pairs.specs.Helpers.{nameEnds, endOf}
+use Rattle.pairs.specs.Helpers.{endsAt, endOf}
 use Rattle.pairs.proofs.NameScans.{stored-none, stored-equals, stored-next, scan-good, scan-wrong}
 
 -- one byte more in front
@@ -80,12 +80,12 @@ stored-on (b ∷ bs) h n =
     (λ u. omega (arith, q, ahead-here b bs u)))
 
 -- where a stored name ends
-pub ends-past : (area : List ℕ) (at : ℕ) → length area ≤ at → true ≡ nameEnds area at
-unfolding nameEnds
+pub ends-past : (area : List ℕ) (at : ℕ) → length area ≤ at → true ≡ endsAt area at
+unfolding endsAt
 ends-past area at h = rw (le-leb (length area) at h)
 
-pub ends-byte : (area : List ℕ) (at : ℕ) → at < length area → eqb (getD area at 0) 0x3D ≡ nameEnds area at
-unfolding nameEnds
+pub ends-byte : (area : List ℕ) (at : ℕ) → at < length area → eqb (getD area at 0) 0x3D ≡ endsAt area at
+unfolding endsAt
 ends-byte area at h = rw (lt-leb (length area) at h)
 
 -- by the first byte r from `from` on that a name may not hold
@@ -96,15 +96,15 @@ module _ (area : List ℕ) (from r : ℕ) (e : r ≡ from + allowedAhead (drop f
   there : getD left (allowedAhead left) 0 ≡ getD area r 0
   there = getD-drop from area (allowedAhead left) 0 ∙ ap (λ (k : ℕ). getD area k 0) (sym e)
 
-  ends-whole : nameEnds area r ≡ true → length (storedName left) ≤ r - from
-  unfolding nameEnds
+  ends-whole : endsAt area r ≡ true → length (storedName left) ≤ r - from
+  unfolding endsAt
   ends-whole t =
       split (leb (length area) r)
       (λ u. omega (arith, leb-true (length area) r u, stored-short left, length-drop from area))
       (λ u. let z : getD area r 0 ≡ 0x3D = eqb-true (getD area r 0) 0x3D (rw u at t) in omega (arith, stored-here left (there ∙ z)))
 
-  ends-not : nameEnds area r ≡ false → r - from < length (storedName left)
-  unfolding nameEnds
+  ends-not : endsAt area r ≡ false → r - from < length (storedName left)
+  unfolding endsAt
   ends-not t =
       split (leb (length area) r)
       (λ u. clash (cc))
@@ -112,18 +112,18 @@ module _ (area : List ℕ) (from r : ℕ) (e : r ≡ from + allowedAhead (drop f
       omega (arith, stored-on left (omega (arith, leb-false (length area) r u, length-drop from area)) (λ q. n (sym there ∙ q))))
 
   -- THE CHECK OF A STORED NAME by the allowed bytes at its start, and whether it ends there
-  stored-check : checkAllowed (r - from) (nameEnds area r) ≡ nameCheck (storedName left)
-  stored-check = check-by-allowed (storedName left) (r - from) (nameEnds area r) (omega (arith, stored-ahead left)) ends-whole ends-not
+  stored-check : checkByAllowed (r - from) (endsAt area r) ≡ nameCheck (storedName left)
+  stored-check = check-by-allowed (storedName left) (r - from) (endsAt area r) (omega (arith, stored-ahead left)) ends-whole ends-not
 
-  module _ (whole : Bool) (u : whole ≡ nameEnds area r) where
-    checked : {x : NameCheck} → x ≡ checkAllowed (r - from) whole → nameCheck (storedName left) ≡ x
-    checked w = sym (w ∙ ap (checkAllowed (r - from)) u ∙ stored-check)
+  module _ (whole : Bool) (u : whole ≡ endsAt area r) where
+    checked : {x : NameCheck} → x ≡ checkByAllowed (r - from) whole → nameCheck (storedName left) ≡ x
+    checked w = sym (w ∙ ap (checkByAllowed (r - from)) u ∙ stored-check)
 
-    pub name-wrong : (i : ℕ) → Names.Wrong i ≡ checkAllowed (r - from) whole → Wrong (from + i) ≡ endOf from from (scanName (drop from area))
+    pub name-wrong : (i : ℕ) → Names.Wrong i ≡ checkByAllowed (r - from) whole → Wrong (from + i) ≡ endOf from from (scanName (drop from area))
     unfolding endOf
     name-wrong i w = ap (endOf from from) (sym (scan-wrong left i (checked w)))
 
-    module _ (w : Names.Good ≡ checkAllowed (r - from) whole) where
+    module _ (w : Names.Good ≡ checkByAllowed (r - from) whole) where
       long : length (storedName left) ≡ r - from
       long = omega (arith, ends-whole (sym u ∙ allowed-good (r - from) whole w), stored-ahead left, ahead-short (storedName left))
 

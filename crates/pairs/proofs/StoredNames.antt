@@ -1,5 +1,5 @@
--- Document 01's sentence on code 8 follows from the relation of a caller's name: the first byte of a stored name that is not allowed
--- and not `=`, an `=` at once, or a 32nd byte that is not `=`.
+-- Document 01's sentence on code 8 says the same as the row: the first byte of a stored name that is not allowed and not `=`, an `=` at
+-- once, or a 32nd byte that is not `=`.
 use Prim.Native.Nat.{ℕ, zero, suc, _+_, _<_, _≤_}
 use mathlib.Core.Path.{_≡_, refl, sym, ap, _∙_}
 use mathlib.Core.List.{List, [], _∷_, _++_, append-assoc, append-nil}
@@ -7,30 +7,35 @@ use mathlib.Core.Logic.{_≢_, _⊎_, inl, inr, _↔_}
 use native.Mathlib.Omega.{arith}
 use lib.ListN.{length, getD, take, drop, length-append, length-take, take-append-drop, List·getD-append}
 use lib.Seq.{getD-append-add}
+use lib.Dec.{eqb}
+use borrow.Author.Tests.{eqb-true, eqb-false}
 use Rattle.lists.specs.Bytes.{Every}
-use Rattle.lists.proofs.Tests.{clash}
+use Rattle.lists.proofs.Tests.{split, clash}
 use Rattle.lists.proofs.ListLaws.{drop-next}
+use Rattle.errors.specs.declared.AreaFault.the-variants.{StoredName}
 use Rattle.names.specs.Rules.{NameByte, FirstWrong, empty, byte}
 use Rattle.pairs.specs.Scan.{storedName}
-use Rattle.pairs.specs.Rules.{UpToEquals, ended, unended}
-use Rattle.pairs.proofs.NameScans.{up-next, stored-exactly}
+use Rattle.pairs.specs.Rules.{Entry, sizes, UpToEquals, by-equals, by-end, FaultAt, eight}
+use Rattle.pairs.proofs.NameScans.{stored-next, up-next, stored-exactly}
+use Rattle.pairs.proofs.ScanLaws.{Begun}
 
 -- a byte of a stored name that decides code 8, after k bytes that are allowed
-pub data BadByte (k b : ℕ) : Type 0 where
-  not-allowed : b ≢ 0x3D → ¬ (NameByte b) → BadByte k b
-  equals-at-once : b ≡ 0x3D → k ≡ 0 → BadByte k b
-  thirty-second : b ≢ 0x3D → k ≡ 31 → BadByte k b
+pub data Decides (k b : ℕ) : Type 0 where
+  not-allowed : b ≢ 0x3D → ¬ (NameByte b) → Decides k b
+  equals-at-once : b ≡ 0x3D → k ≡ 0 → Decides k b
+  thirty-second : b ≢ 0x3D → k ≡ 31 → Decides k b
 
--- the first of these bytes that decides it has the index i
-pub record FirstBad (bs : List ℕ) (i : ℕ) : Type 0 where
+-- the first of these bytes that decides it has the index i; no 0x00 ends the pairs at once
+pub record DecidedAt (bs : List ℕ) (i : ℕ) : Type 0 where
   pub begun : List ℕ
-  pub bad : ℕ
+  pub decider : ℕ
   pub rest : List ℕ
-  pub bytes : bs ≡ begun ++ bad ∷ rest
+  pub bytes : bs ≡ begun ++ decider ∷ rest
   pub allowed : Every NameByte begun
   pub index : length begun ≡ i
   pub most : i ≤ 31
-  pub why : BadByte i bad
+  pub why : Decides i decider
+  pub no-end : begun ≡ [] → decider ≢ 0x00
 
 -- ---- from the relation of a caller's name
 
@@ -48,31 +53,64 @@ every-at P (b ∷ bs) (suc k) h a = every-at P bs k (omega arith) (a .1)
 cut-at : (l : List ℕ) (i : ℕ) → i < length l → l ≡ take i l ++ getD l i 0 ∷ drop (i + 1) l
 cut-at l i h = sym (take-append-drop i l) ∙ ap (λ (t : List ℕ). take i l ++ t) (drop-next l i h)
 
-why-bad : (i b : ℕ) → b ≢ 0x3D → (¬ (NameByte b)) ⊎ (i ≡ 31) → BadByte i b
-why-bad i b z (inl n) = not-allowed z n
-why-bad i b z (inr e) = thirty-second z e
+why-decides : (i b : ℕ) → b ≢ 0x3D → (¬ (NameByte b)) ⊎ (i ≡ 31) → Decides i b
+why-decides i b z (inl n) = not-allowed z n
+why-decides i b z (inr e) = thirty-second z e
 
-first-at : (name t : List ℕ) {i : ℕ} → Every (λ b. b ≢ 0x3D) name → i < length name → i ≤ 31
-    → ((k : ℕ) → k < i → NameByte (getD name k 0)) → (¬ (NameByte (getD name i 0))) ⊎ (i ≡ 31) → FirstBad (name ++ t) i
-first-at name t {i} a h l before q =
+-- bytes that begin with no 0x00 do so too where they are split
+first-not-zero : (c : ℕ) (bs begun : List ℕ) (b : ℕ) (rest : List ℕ) → c ≢ 0x00 → c ∷ bs ≡ begun ++ b ∷ rest → begun ≡ [] → b ≢ 0x00
+first-not-zero c bs begun b rest h e y =
+    λ z. let m : c ≡ b = cc in
+    h (m ∙ z)
+
+first-at : (c : ℕ) (bs name t : List ℕ) {i : ℕ} → c ≢ 0x00 → c ∷ bs ≡ name ++ t → Every (λ b. b ≢ 0x3D) name → i < length name → i ≤ 31
+    → ((k : ℕ) → k < i → NameByte (getD name k 0)) → (¬ (NameByte (getD name i 0))) ⊎ (i ≡ 31) → DecidedAt (c ∷ bs) i
+first-at c bs name t {i} z e a h l before q =
+    let whole : c ∷ bs ≡ take i name ++ getD name i 0 ∷ (drop (i + 1) name ++ t) =
+    e ∙ ap (λ (s : List ℕ). s ++ t) (cut-at name i h) ∙ append-assoc (take i name) (getD name i 0 ∷ drop (i + 1) name) t in
     record {
       begun = take i name;
-      bad = getD name i 0;
+      decider = getD name i 0;
       rest = drop (i + 1) name ++ t;
-      bytes = ap (λ (s : List ℕ). s ++ t) (cut-at name i h) ∙ append-assoc (take i name) (getD name i 0 ∷ drop (i + 1) name) t;
+      bytes = whole;
       allowed = every-before name i before (omega arith);
       index = omega (arith, length-take i name);
       most = l;
-      why = why-bad i (getD name i 0) (every-at (λ b. b ≢ 0x3D) name i h a) q;
+      why = why-decides i (getD name i 0) (every-at (λ b. b ≢ 0x3D) name i h a) q;
+      no-end = first-not-zero c bs (take i name) (getD name i 0) (drop (i + 1) name ++ t) z whole;
     }
 
-wrong-bad : {name bs : List ℕ} {i : ℕ} → bs ≢ [] → UpToEquals name bs → FirstWrong name i → FirstBad bs i
-wrong-bad n (ended {name = []} rest a) (empty e f) =
-    record { begun = []; bad = 0x3D; rest = rest; bytes = refl; allowed = tt; index = sym f; most = omega arith; why = equals-at-once refl f }
-wrong-bad n (ended {name = b ∷ name} rest a) (empty e f) = clash (cc)
-wrong-bad n (unended a) (empty e f) = absurd (n e)
-wrong-bad n (ended {name = name} rest a) (byte h l before q) = first-at name (0x3D ∷ rest) a h l before q
-wrong-bad n (unended {name = name} a) (byte h l before q) = rw (append-nil name) at (first-at name [] a h l before q)
+-- the stored name is the start of the bytes
+up-start : {name bs : List ℕ} → UpToEquals name bs → (t : List ℕ) × (bs ≡ name ++ t)
+up-start (by-equals rest a) = (0x3D ∷ rest, refl)
+up-start (by-end {name = name} a) = ([], sym (append-nil name))
+
+up-clean : {name bs : List ℕ} → UpToEquals name bs → Every (λ b. b ≢ 0x3D) name
+up-clean (by-equals rest a) = a
+up-clean (by-end a) = a
+
+empty-decides : (c : ℕ) (bs : List ℕ) (i : ℕ) → UpToEquals [] (c ∷ bs) → i ≡ 0 → DecidedAt (c ∷ bs) i
+empty-decides c bs i u f =
+    let z : c ≡ 0x3D =
+    split (eqb c 0x3D) (λ t. eqb-true c 0x3D t)
+    (λ t. clash (cc (stored-exactly (c ∷ bs) [] .1 u, stored-next c bs (eqb-false c 0x3D t)))) in
+    record {
+      begun = [];
+      decider = c;
+      rest = bs;
+      bytes = refl;
+      allowed = tt;
+      index = sym f;
+      most = omega arith;
+      why = equals-at-once z f;
+      no-end = λ y q. omega arith;
+    }
+
+wrong-decides : {c i : ℕ} {name bs : List ℕ} → c ≢ 0x00 → UpToEquals name (c ∷ bs) → FirstWrong name i → DecidedAt (c ∷ bs) i
+wrong-decides {c} {i} {name} {bs} z u (empty e f) = empty-decides c bs i (rw e at u) f
+wrong-decides {c} {i} {name} {bs} z u (byte h l before q) =
+    let s = up-start u in
+    first-at c bs name (s .0) z (s .1) (up-clean u) h l before q
 
 -- ---- and to it
 
@@ -89,26 +127,40 @@ first-after begun b t a h w =
     byte (omega (arith, length-append begun (b ∷ t))) h
     (λ k i. rw (List·getD-append begun (b ∷ t) 0 k i) (every-at NameByte begun k i a)) (rw there w)
 
--- the stored name at the start of these bytes breaks the rule first at the index i
-abbrev Wrongs : List ℕ → ℕ → Type 0
-Wrongs bs i = (name : List ℕ) × UpToEquals name bs × FirstWrong name i
+-- row 8 at what is left of an area, by the byte that decides it
+module _ (past : ℕ) (es : List Entry) where
+  eight-by : {name rest : List ℕ} {i : ℕ} → Begun rest → UpToEquals name rest → FirstWrong name i → FaultAt past es rest StoredName (sizes es + i)
+  eight-by {rest = []} h u w = absurd h
+  eight-by {rest = b ∷ bs} h u w = eight h u w
 
-wrong-after : (begun : List ℕ) (b : ℕ) (rest : List ℕ) → Every NameByte begun → length begun ≤ 31 → b ≢ 0x3D
-    → (¬ (NameByte b)) ⊎ (length begun ≡ 31) → Wrongs (begun ++ b ∷ rest) (length begun)
-wrong-after begun b rest a h z w =
-    let u = stored-exactly rest (storedName rest) .0 refl in
-    (begun ++ b ∷ storedName rest, up-after begun a (up-next b z u), first-after begun b (storedName rest) a h w)
+  wrong-after : (begun : List ℕ) (b : ℕ) (rest : List ℕ) → Begun (begun ++ b ∷ rest) → Every NameByte begun → length begun ≤ 31 → b ≢ 0x3D
+      → (¬ (NameByte b)) ⊎ (length begun ≡ 31) → FaultAt past es (begun ++ b ∷ rest) StoredName (sizes es + length begun)
+  wrong-after begun b rest y a h z w =
+      let u = stored-exactly rest (storedName rest) .0 refl in
+      eight-by y (up-after begun a (up-next b z u)) (first-after begun b (storedName rest) a h w)
 
-bad-wrong : (begun : List ℕ) (b : ℕ) (rest : List ℕ) → Every NameByte begun → length begun ≤ 31 → BadByte (length begun) b
-    → Wrongs (begun ++ b ∷ rest) (length begun)
-bad-wrong begun b rest a h (not-allowed z n) = wrong-after begun b rest a h z (inl n)
-bad-wrong begun b rest a h (thirty-second z n) = wrong-after begun b rest a h z (inr n)
-bad-wrong [] b rest a h (equals-at-once z n) = rw z ([], ended {name = []} rest tt, empty refl refl)
-bad-wrong (c ∷ begun) b rest a h (equals-at-once z n) = absurd (omega arith)
+  decides-eight : (begun : List ℕ) (b : ℕ) (rest : List ℕ) → Begun (begun ++ b ∷ rest) → Every NameByte begun → length begun ≤ 31
+      → Decides (length begun) b → FaultAt past es (begun ++ b ∷ rest) StoredName (sizes es + length begun)
+  decides-eight begun b rest y a h (not-allowed z n) = wrong-after begun b rest y a h z (inl n)
+  decides-eight begun b rest y a h (thirty-second z n) = wrong-after begun b rest y a h z (inr n)
+  decides-eight [] b rest y a h (equals-at-once z n) =
+      eight-by y (rw z (by-equals {name = []} rest tt)) (empty refl refl)
+  decides-eight (c ∷ begun) b rest y a h (equals-at-once z n) = absurd (omega arith)
 
--- DOCUMENT 01'S SENTENCE on 8 holds exactly where the stored name is wrong as a caller's is
-pub bad-exactly : (b : ℕ) (bs : List ℕ) (i : ℕ) → Wrongs (b ∷ bs) i ↔ FirstBad (b ∷ bs) i
-bad-exactly b bs i = (
-  λ w. wrong-bad (λ e. clash (cc)) (w .1) (w .2),
-  λ f. rw (f .bytes) (rw (f .index) at (bad-wrong (f .begun) (f .bad) (f .rest) (f .allowed) (omega (arith, f .index, f .most)) (rw (← f .index) at (f .why)))),
-)
+  begins : (begun : List ℕ) (b : ℕ) (rest : List ℕ) → Every NameByte begun → (begun ≡ [] → b ≢ 0x00) → Begun (begun ++ b ∷ rest)
+  begins [] b rest a n = n refl
+  begins (c ∷ begun) b rest a n = λ e. omega (arith, a .0 .least)
+
+  decided-eight : {rest : List ℕ} {i : ℕ} → DecidedAt rest i → FaultAt past es rest StoredName (sizes es + i)
+  decided-eight d =
+      rw (d .bytes)
+      (rw (d .index) at
+      (decides-eight (d .begun) (d .decider) (d .rest) (begins (d .begun) (d .decider) (d .rest) (d .allowed) (d .no-end)) (d .allowed)
+      (omega (arith, d .index, d .most)) (rw (← d .index) at (d .why))))
+
+  eight-decided : {rest : List ℕ} {k : ℕ} → FaultAt past es rest StoredName k → (i : ℕ) × (k ≡ sizes es + i) × DecidedAt rest i
+  eight-decided (eight {i = i} z u w) = (i, refl, wrong-decides z u w)
+
+  -- DOCUMENT 01'S SENTENCE ON 8 says the same as the row
+  pub eight-exactly : (rest : List ℕ) (k : ℕ) → FaultAt past es rest StoredName k ↔ ((i : ℕ) × (k ≡ sizes es + i) × DecidedAt rest i)
+  eight-exactly rest k = (eight-decided, λ d. rw (d .1) (decided-eight (d .2)))

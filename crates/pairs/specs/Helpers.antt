@@ -21,8 +21,8 @@ use Rattle.pairs.specs.Scan.{Scan, ends, bad, short, Stand, pair, finish
 use Rattle.pairs.specs.Area.{Parse, parsed, faulty, pairsBytes}
 
 -- whether a stored name ends at the offset at: its `=` stands there, or the area ends
-unfoldable pub nameEnds : List ℕ → ℕ → Bool
-nameEnds area at = leb (length area) at || eqb (getD area at 0) 0x3D
+unfoldable pub endsAt : List ℕ → ℕ → Bool
+endsAt area at = leb (length area) at || eqb (getD area at 0) 0x3D
 
 -- where a scan that began at `from` ends; at: the offset of what is left of it
 unfoldable pub endOf : ℕ → ℕ → Scan → ScanEnd

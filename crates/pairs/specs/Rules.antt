@@ -46,8 +46,8 @@ pub record WellFormed (es : List Entry) (area : List ℕ) : Type 0 where
 
 -- the stored name at the start of these bytes: those before the first `=`, or all where there is none
 pub data UpToEquals : List ℕ → List ℕ → Type 0 where
-  ended : {name : List ℕ} (rest : List ℕ) → Every (λ b. b ≢ 0x3D) name → UpToEquals name (name ++ 0x3D ∷ rest)
-  unended : {name : List ℕ} → Every (λ b. b ≢ 0x3D) name → UpToEquals name name
+  by-equals : {name : List ℕ} (rest : List ℕ) → Every (λ b. b ≢ 0x3D) name → UpToEquals name (name ++ 0x3D ∷ rest)
+  by-end : {name : List ℕ} → Every (λ b. b ≢ 0x3D) name → UpToEquals name name
 
 -- what the area's end cuts off: nothing of a pair, or part of its name, of its value, or 0xFF without its second byte
 pub data CutOff : List ℕ → Type 0 where

@@ -10,7 +10,7 @@ ghost use lib.ListN.{length, take, drop};
 ghost use Rattle.repeats.specs.Pieces.{firstRepeat};
 ghost use Rattle.pairs.specs.Scan.{scanName, scanValue, standAt};
 ghost use Rattle.pairs.specs.Area.{parse};
-ghost use Rattle.pairs.specs.Helpers.{nameEnds, endOf, placeOf, orRepeat, scannedOf, closedOf, firstPlace, findAt};
+ghost use Rattle.pairs.specs.Helpers.{endsAt, endOf, placeOf, orRepeat, scannedOf, closedOf, firstPlace, findAt};
 
 // Where a scan of a name or of a value ends.
 enum ScanEnd {
@@ -57,8 +57,8 @@ pub enum Place {
 }
 
 // Whether a stored name ends at an offset: its `=` stands there, or the area ends.
-fn name_ends(area: &[u8], at: usize) -> bool
-    ensures { λ r. ⌜ r ≡ nameEnds (now (area .entry)) at ⌝ }
+fn ends_at(area: &[u8], at: usize) -> bool
+    ensures { λ r. ⌜ r ≡ endsAt (now (area .entry)) at ⌝ }
 {
     if area.len() <= at {
         return true;
@@ -71,7 +71,7 @@ fn scan_name(area: &[u8], from: usize) -> ScanEnd
     ensures { λ r. ⌜ r ≡ endOf from from (scanName (drop from (now (area .entry)))) ⌝ }
 {
     let end = names::name_end(area, from);
-    match names::check_allowed(end - from, name_ends(area, end)) {
+    match names::check_by_allowed(end - from, ends_at(area, end)) {
         NameCheck::Wrong { at } => ScanEnd::Wrong(from + at),
         NameCheck::Good => {
             if area.len() <= end {

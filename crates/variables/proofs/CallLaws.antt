@@ -168,7 +168,7 @@ buffer-none (a-remove name) area = call-cases (remove name) area NoBuffer (λ e.
 buffer-none a-normalize area = call-cases normalize area NoBuffer (λ e. refl) (λ ps. rw (normalize-done ps area) refl)
 buffer-none a-count area = call-cases count area NoBuffer (λ e. refl) (λ ps. rw (count-done ps area) refl)
 
--- ---- a reply's offset stands in the area
+-- ---- a reply's offset stands in the area, or below 32 in the caller's name
 
 abbrev NoOffset : Outcome → Type 0
 NoOffset o = replyOffset (o .reply) ≡ 0
@@ -180,7 +180,6 @@ pairs-offset (named name (readInto buffer)) ps area = read-cases NoOffset ps are
 pairs-offset normalize ps area = rw (normalize-done ps area) refl
 pairs-offset count ps area = rw (count-done ps area) refl
 
--- or in the caller's name
 pub reply-inside : (call : Call) (area : List ℕ) → replyOffset (callArea call area .reply) ≤ length area + 31
 reply-inside call area =
     split-check (callCheck call)

@@ -8,11 +8,11 @@ use Rattle.names.proofs.check.Tie as tie
 name-end-requires : tie.Need-name-end-requires
 name-end-requires c κs = search needs
 
-check-allowed-requires : tie.Need-check-allowed-requires
-check-allowed-requires c κs = search needs
+check-by-allowed-requires : tie.Need-check-by-allowed-requires
+check-by-allowed-requires c κs = search needs
 
 returns : tie.Need-returns
-returns c = c .check-allowed .ensures ∙ check-whole _ _ (c .before .name-end .ensures)
+returns c = c .check-by-allowed .ensures ∙ check-whole _ _ (c .before .name-end .ensures)
 
 pub check-spec : {M : Type 1} → statement M
-check-spec = tie.close (tie.spec name-end-requires check-allowed-requires returns)
+check-spec = tie.close (tie.spec name-end-requires check-by-allowed-requires returns)

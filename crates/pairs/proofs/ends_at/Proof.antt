@@ -1,8 +1,8 @@
--- `pairs::name_ends` meets its contract, at the area's end and before it.
+-- `pairs::ends_at` meets its contract, at the area's end and before it.
 use borrow.Author.Needs.{needs}
 use Rattle.pairs.proofs.ScanPlaces.{ends-past, ends-byte}
-use Rattle.pairs.proofs.name_ends.Statement.{statement}
-use Rattle.pairs.proofs.name_ends.Tie as tie
+use Rattle.pairs.proofs.ends_at.Statement.{statement}
+use Rattle.pairs.proofs.ends_at.Tie as tie
 
 returns : tie.Need-returns
 returns c = ends-past _ _ (search needs)
@@ -13,5 +13,5 @@ shared-slice-read-result c = search needs
 returns-2 : tie.Need-returns-2
 returns-2 c = ends-byte _ _ (search needs)
 
-pub name-ends-spec : {M : Type 1} → statement M
-name-ends-spec = tie.close (tie.spec returns shared-slice-read-result returns-2)
+pub ends-at-spec : {M : Type 1} → statement M
+ends-at-spec = tie.close (tie.spec returns shared-slice-read-result returns-2)

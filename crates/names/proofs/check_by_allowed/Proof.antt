@@ -1,8 +1,8 @@
--- `names::check_allowed` meets its contract, case by case.
+-- `names::check_by_allowed` meets its contract, case by case.
 use borrow.Author.Needs.{needs}
 use Rattle.names.proofs.AheadLaws.{allowed-long, allowed-none, allowed-whole, allowed-part}
-use Rattle.names.proofs.check_allowed.Statement.{statement}
-use Rattle.names.proofs.check_allowed.Tie as tie
+use Rattle.names.proofs.check_by_allowed.Statement.{statement}
+use Rattle.names.proofs.check_by_allowed.Tie as tie
 
 returns : tie.Need-returns
 returns c = allowed-long _ _ (search needs)
@@ -16,5 +16,5 @@ returns-3 c = allowed-whole _ _ (search needs) (c .before .if2 .left) (c .if3 .t
 returns-4 : tie.Need-returns-4
 returns-4 c = allowed-part _ _ (search needs) (c .before .if2 .left) (c .if3 .left)
 
-pub check-allowed-spec : {M : Type 1} → statement M
-check-allowed-spec = tie.close (tie.spec returns returns-2 returns-3 returns-4)
+pub check-by-allowed-spec : {M : Type 1} → statement M
+check-by-allowed-spec = tie.close (tie.spec returns returns-2 returns-3 returns-4)
