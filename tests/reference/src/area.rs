@@ -35,13 +35,22 @@ pub fn is_name_byte(byte: u8) -> bool {
     matches!(byte, 0x21..=0x7E) && !byte.is_ascii_uppercase() && !b"/\\:[]@=".contains(&byte)
 }
 
+/// Where the first wrong byte of a name is: its index, 0 for an empty name, 31 for a name that is too long and good so far.
+pub fn first_wrong(name: &[u8]) -> Option<usize> {
+    if name.is_empty() {
+        return Some(0);
+    }
+    let mut bytes = name.iter().enumerate();
+    bytes
+        .find(|&(index, &byte)| index == LONGEST_NAME || !is_name_byte(byte))
+        .map(|(index, _)| index)
+}
+
 /// Checks a caller's variable name.
 pub fn check_name(name: &[u8]) -> Result<(), Refusal> {
-    let good_length = (1..=LONGEST_NAME).contains(&name.len());
-    if good_length && name.iter().all(|&byte| is_name_byte(byte)) {
-        Ok(())
-    } else {
-        Err(Refusal::plain(11))
+    match first_wrong(name) {
+        Some(index) => Err(Refusal::at(11, index)),
+        None => Ok(()),
     }
 }
 
@@ -70,17 +79,16 @@ pub fn parse(area: &[u8], start: usize) -> Result<Vec<Pair>, Refusal> {
     }
 }
 
-/// Parses the name that begins at `at`, up to its `=`.
+/// Parses the name that begins at `at`: what stands before the `=`, or all that is left of the area where there is none.
 fn parse_name(area: &[u8], start: usize, at: usize) -> Result<&[u8], Refusal> {
-    for (length, &byte) in area[at..].iter().enumerate() {
-        if byte == b'=' && length > 0 {
-            return Ok(&area[at..at + length]);
-        }
-        if !is_name_byte(byte) || length == LONGEST_NAME {
-            return Err(Refusal::at(8, start + at + length));
-        }
+    let left = &area[at..];
+    let equals = left.iter().position(|&byte| byte == b'=');
+    let name = &left[..equals.unwrap_or(left.len())];
+    match (first_wrong(name), equals) {
+        (Some(index), _) => Err(Refusal::at(8, start + at + index)),
+        (None, Some(_)) => Ok(name),
+        (None, None) => Err(Refusal::at(7, start + area.len())),
     }
-    Err(Refusal::at(7, start + area.len()))
 }
 
 /// Parses the value that begins at `at`, and answers it with the position after its 0x00.

@@ -28,7 +28,7 @@ impl Refusal {
         Refusal { code, offset: 0 }
     }
 
-    /// A refusal at the given offset of the image.
+    /// A refusal at the given offset of the image, or with 11 at the given index of the name.
     pub fn at(code: u32, offset: usize) -> Refusal {
         Refusal { code, offset }
     }

@@ -37,10 +37,19 @@ pub struct Answer {
 }
 
 impl Answer {
-    /// An answer with the code alone; each code of the reference model has offset 0.
+    /// An answer with the code alone; each code of the reference model but 11 has offset 0.
     fn code(code: u32) -> Answer {
         Answer {
             code,
+            ..Answer::default()
+        }
+    }
+
+    /// The answer 11 with the index of the name's first wrong byte.
+    fn bad_name(index: usize) -> Answer {
+        Answer {
+            code: 11,
+            offset: index,
             ..Answer::default()
         }
     }
@@ -93,8 +102,8 @@ impl Model {
     }
 
     fn set(&mut self, name: &[u8], value: &[u8]) -> Answer {
-        if !good_name(name) {
-            return Answer::code(11);
+        if let Some(index) = wrong_index(name) {
+            return Answer::bad_name(index);
         }
         let position = self.position(name);
         let size = new_size(name, value);
@@ -115,8 +124,8 @@ impl Model {
     }
 
     fn remove(&mut self, name: &[u8]) -> Answer {
-        if !good_name(name) {
-            return Answer::code(11);
+        if let Some(index) = wrong_index(name) {
+            return Answer::bad_name(index);
         }
         match self.position(name) {
             None => Answer::code(12),
@@ -136,32 +145,35 @@ impl Model {
 
     fn read(&self, name: &[u8], lent: &[u8]) -> Answer {
         let mut buffer = lent.to_vec();
-        let (code, amount) = if !good_name(name) {
-            (11, 0)
-        } else if let Some(at) = self.position(name) {
-            let value = &self.entries[at].value;
-            if buffer.len() < value.len() {
-                (14, 0)
-            } else {
-                buffer[..value.len()].copy_from_slice(value);
-                (0, value.len())
-            }
-        } else {
-            (12, 0)
-        };
-        Answer {
-            code,
-            offset: 0,
-            amount,
-            buffer,
+        let answer = self.read_into(name, &mut buffer);
+        Answer { buffer, ..answer }
+    }
+
+    /// Reads a variable into the buffer, and answers all but the buffer.
+    fn read_into(&self, name: &[u8], buffer: &mut [u8]) -> Answer {
+        if let Some(index) = wrong_index(name) {
+            return Answer::bad_name(index);
         }
+        let Some(at) = self.position(name) else {
+            return Answer::code(12);
+        };
+        let value = &self.entries[at].value;
+        if buffer.len() < value.len() {
+            return Answer::code(14);
+        }
+        buffer[..value.len()].copy_from_slice(value);
+        Answer::amount(value.len())
     }
 }
 
-/// The name rule, written out again from the allowed bytes so that it is apart from the parser's.
-fn good_name(name: &[u8]) -> bool {
+/// Where a name breaks the name rule, written out again from the allowed bytes so that it is apart from the parser's.
+fn wrong_index(name: &[u8]) -> Option<usize> {
     const ALLOWED: &[u8; 61] = b"!\"#$%&'()*+,-.0123456789;<>?^_`abcdefghijklmnopqrstuvwxyz{|}~";
-    (1..=31).contains(&name.len()) && name.iter().all(|byte| ALLOWED.contains(byte))
+    let good = name.iter().take_while(|byte| ALLOWED.contains(byte));
+    match good.count() {
+        all @ 1..=31 if all == name.len() => None,
+        good => Some(good.min(31)),
+    }
 }
 
 /// The bytes of a pair whose value is in canonical form, counted without writing it.

@@ -1,7 +1,7 @@
-//! The examples 1 to 12 of document 01.
+//! The examples 1 to 12 of document 01, and the name rule with the index of the first wrong byte.
 
 use crate::header::{checksum, header_bytes, padded_name};
-use crate::model::{self, canonical_area, Model};
+use crate::model::{self, canonical_area, Call, Model};
 use crate::*;
 
 const COMMON: [u8; 12] = *b"common\0\0\0\0\0\0";
@@ -183,4 +183,111 @@ fn listing_of_the_base_image() {
 fn name_rule_allows_61_bytes() {
     let allowed: Vec<u8> = (0..=255).filter(|&byte| area::is_name_byte(byte)).collect();
     assert_eq!(allowed.len(), 61);
+}
+
+/// Names, each with the index of its first wrong byte, or nothing for a good name.
+fn names() -> Vec<(Vec<u8>, Option<usize>)> {
+    let mut names: Vec<(Vec<u8>, Option<usize>)> = vec![
+        (b"".to_vec(), Some(0)),
+        (b"a".to_vec(), None),
+        (b"A".to_vec(), Some(0)),
+        (b"boot device".to_vec(), Some(4)),
+        (b"bootDevicePath".to_vec(), Some(4)),
+        (b"=".to_vec(), Some(0)),
+        (b"a=b".to_vec(), Some(1)),
+        (b"ab=".to_vec(), Some(2)),
+        (b"a\0".to_vec(), Some(1)),
+        (vec![b'n'; 31], None),
+        (vec![b'n'; 32], Some(31)),
+        (vec![b'n'; 33], Some(31)),
+        (vec![b'n'; 1_000_000], Some(31)),
+    ];
+    for length in [31, 32, 33] {
+        for at in 0..length {
+            let mut name = vec![b'n'; length];
+            name[at..].fill(b'N');
+            names.push((name, Some(at.min(31))));
+        }
+    }
+    names
+}
+
+#[test]
+fn caller_name_is_refused_at_its_first_wrong_byte() {
+    let (mut image, mut buffer) = (base(), [9; 3]);
+    for (name, index) in names() {
+        let wanted = index.map_or(Ok(()), |index| Err(Refusal::at(11, index)));
+        assert_eq!(area::check_name(&name), wanted);
+        let Err(refusal) = wanted else { continue };
+        assert_eq!(read(&image, &name, &mut buffer), Err(refusal));
+        assert_eq!(set(&mut image, &name, b"1"), Err(refusal));
+        assert_eq!(remove(&mut image, &name), Err(refusal));
+    }
+    assert_eq!((image, buffer), (base(), [9; 3]));
+}
+
+#[test]
+fn caller_name_is_refused_before_the_image() {
+    let refusal = Refusal::at(11, 2);
+    for mut image in [vec![], base()[..40].to_vec(), vec![0; 16], with_area(b"A=")] {
+        assert_eq!(read(&image, b"ab c", &mut []), Err(refusal));
+        assert_eq!(set(&mut image, b"ab c", b"1"), Err(refusal));
+        assert_eq!(remove(&mut image, b"ab c"), Err(refusal));
+    }
+}
+
+#[test]
+fn model_answers_the_index_of_the_first_wrong_byte() {
+    let mut model = Model::of_image(&base()).unwrap();
+    let before = model.clone();
+    for (name, index) in names() {
+        let Some(index) = index else { continue };
+        let (value, buffer) = (vec![], vec![9; 3]);
+        let name = || name.clone();
+        let read = model.step(&Call::Read {
+            name: name(),
+            buffer,
+        });
+        let set = model.step(&Call::Set {
+            name: name(),
+            value,
+        });
+        let remove = model.step(&Call::Remove { name: name() });
+        assert_eq!(read.buffer, [9; 3]);
+        for answer in [read, set, remove] {
+            assert_eq!((answer.code, answer.offset, answer.amount), (11, index, 0));
+        }
+    }
+    assert_eq!(model, before);
+}
+
+#[test]
+fn stored_name_is_refused_at_its_first_wrong_byte() {
+    for (name, index) in names() {
+        let pairs = [b"c=1\0", &name[..], b"=v\0\0"].concat();
+        let wanted = match index {
+            None => Ok(2),
+            Some(index) if index > 0 && name[index] == b'=' => Ok(2),
+            Some(index) => Err(Refusal::at(8, 20 + index)),
+        };
+        assert_eq!(area::parse(&pairs, 16).map(|pairs| pairs.len()), wanted);
+    }
+}
+
+#[test]
+fn stored_name_that_the_area_cuts() {
+    let ends: [(&[u8], Result<usize, Refusal>); 8] = [
+        (b"", Err(Refusal::at(7, 20))),
+        (b"\0", Ok(1)),
+        (b"ab", Err(Refusal::at(7, 22))),
+        (b"=", Err(Refusal::at(8, 20))),
+        (b"aBC", Err(Refusal::at(8, 21))),
+        (b"ab\0", Err(Refusal::at(8, 22))),
+        (&[b'n'; 31], Err(Refusal::at(7, 51))),
+        (&[b'n'; 32], Err(Refusal::at(8, 51))),
+    ];
+    for (end, wanted) in ends {
+        let pairs = area::parse(&[b"c=1\0", end].concat(), 16);
+        assert_eq!(pairs.map(|pairs| pairs.len()), wanted);
+    }
 }
