@@ -64,19 +64,31 @@ impl fmt::Display for Code {
     }
 }
 
-/// A refused call: its code, and the offset in the image where the fault is.
+/// A refused call: its code, and where the fault is.
 #[derive(Debug, Clone, Copy, PartialEq, Eq, Hash)]
+#[non_exhaustive]
 pub struct Error {
     /// The fault.
     pub code: Code,
-    /// The offset of the fault, 0 where the code has none.
+    /// The offset of the fault in the image, 0 where the code has none; with `Code::BadName` the index in the caller's name.
     pub offset: usize,
+    /// The byte of the caller's name at that index, where the code is `Code::BadName` and there is one.
+    pub byte: Option<u8>,
 }
 
 impl fmt::Display for Error {
     fn fmt(&self, out: &mut fmt::Formatter) -> fmt::Result {
-        let Error { code, offset } = self;
-        write!(out, "{code} (error {} at offset {offset})", code.number())
+        let Error { code, offset, byte } = self;
+        let place = match code {
+            Code::BadName => "index",
+            _ => "offset",
+        };
+        write!(out, "{code} (error {} at {place} {offset}", code.number())?;
+        match byte {
+            Some(visible @ 0x21..=0x7E) => write!(out, ", byte `{}`)", char::from(*visible)),
+            Some(other) => write!(out, ", byte 0x{other:02X})"),
+            None => out.write_str(")"),
+        }
     }
 }
 
@@ -106,6 +118,7 @@ mod tests {
         let error = Error {
             code: Code::Escape,
             offset: 19,
+            byte: None,
         };
         let text = "a stored 0xFF is followed by 0x00 or 0x80 (error 9 at offset 19)";
         assert_eq!(error.to_string(), text);
@@ -116,7 +129,28 @@ mod tests {
         let error = Error {
             code: Code::from_number(99),
             offset: 3,
+            byte: None,
         };
         assert_eq!(error.to_string(), "unknown code (error 99 at offset 3)");
+    }
+
+    #[test]
+    fn bad_name_shows_its_index_and_byte() {
+        let texts = [
+            (3, Some(b'A'), "(error 11 at index 3, byte `A`)"),
+            (0, Some(0x21), "(error 11 at index 0, byte `!`)"),
+            (31, Some(0x7E), "(error 11 at index 31, byte `~`)"),
+            (3, Some(0x20), "(error 11 at index 3, byte 0x20)"),
+            (3, Some(0x00), "(error 11 at index 3, byte 0x00)"),
+            (3, Some(0x7F), "(error 11 at index 3, byte 0x7F)"),
+            (3, Some(0xFF), "(error 11 at index 3, byte 0xFF)"),
+            (0, None, "(error 11 at index 0)"),
+        ];
+        for (offset, byte, end) in texts {
+            let code = Code::BadName;
+            let error = Error { code, offset, byte };
+            let text = std::format!("the caller's variable name breaks the name rule {end}");
+            assert_eq!(error.to_string(), text);
+        }
     }
 }

@@ -43,8 +43,20 @@ fn answer<T>(code: u32, offset: usize, done: T) -> Result<T, Error> {
         number => Err(Error {
             code: Code::from_number(number),
             offset,
+            byte: None,
         }),
     }
+}
+
+/// The same for a call by a variable's name: where the name is wrong, the error has its byte at the index.
+fn answer_by_name<T>(code: u32, offset: usize, name: &[u8], done: T) -> Result<T, Error> {
+    answer(code, offset, done).map_err(|error| match error.code {
+        Code::BadName => Error {
+            byte: name.get(offset).copied(),
+            ..error
+        },
+        _ => error,
+    })
 }
 
 /// Checks a whole image and answers its number of partitions.
@@ -145,7 +157,7 @@ pub fn read<'b>(image: &[u8], name: &[u8], buffer: &'b mut [u8]) -> Result<&'b [
             &mut length,
         )
     };
-    answer(code, offset, length).map(|length| &buffer[..length])
+    answer_by_name(code, offset, name, length).map(|length| &buffer[..length])
 }
 
 /// Gives a variable a value, and adds the variable after the last one if it is new.
@@ -157,6 +169,15 @@ pub fn read<'b>(image: &[u8], name: &[u8], buffer: &'b mut [u8]) -> Result<&'b [
 /// let mut buffer = [0; 8];
 /// assert_eq!(nvram::read(&image, b"b", &mut buffer)?, [0x00, 0x00, 0xFF]);
 /// # Ok::<(), nvram::Error>(())
+/// ```
+///
+/// A name that breaks the name rule is refused with the index of its first wrong byte, and with that byte:
+///
+/// ```
+/// # let mut image = *b"\x70\xFD\x00\x02common\0\0\0\0\0\0a=1\0\0\0\0\0\0\0\0\0\0\0\0\0";
+/// let error = nvram::set(&mut image, b"bootDevice", b"disk").unwrap_err();
+/// assert_eq!(error.code, nvram::Code::BadName);
+/// assert_eq!((error.offset, error.byte), (4, Some(b'D')));
 /// ```
 pub fn set(image: &mut [u8], name: &[u8], value: &[u8]) -> Result<(), Error> {
     let mut offset = 0;
@@ -172,7 +193,7 @@ pub fn set(image: &mut [u8], name: &[u8], value: &[u8]) -> Result<(), Error> {
             &mut offset,
         )
     };
-    answer(code, offset, ())
+    answer_by_name(code, offset, name, ())
 }
 
 /// Takes a variable out.
@@ -188,7 +209,7 @@ pub fn remove(image: &mut [u8], name: &[u8]) -> Result<(), Error> {
             &mut offset,
         )
     };
-    answer(code, offset, ())
+    answer_by_name(code, offset, name, ())
 }
 
 /// Gives the data area of the variables its canonical form.
@@ -227,8 +248,23 @@ mod tests {
 
     #[test]
     fn unknown_code_is_an_error() {
-        let code = Code::Unknown(20);
-        assert_eq!(answer(20, 5, ()), Err(Error { code, offset: 5 }));
+        let error = Error {
+            code: Code::Unknown(20),
+            offset: 5,
+            byte: None,
+        };
+        assert_eq!(answer(20, 5, ()), Err(error));
+        assert_eq!(answer_by_name(20, 5, b"a-name", ()), Err(error));
         assert_eq!(answer(0, 0, 7), Ok(7));
+    }
+
+    #[test]
+    fn bad_name_has_the_byte_at_its_index() {
+        let byte = |index, name| answer_by_name(11, index, name, ()).unwrap_err().byte;
+        assert_eq!(byte(2, b"abC"), Some(b'C'));
+        assert_eq!(byte(31, &[b'n'; 32]), Some(b'n'));
+        assert_eq!(byte(0, b""), None);
+        assert_eq!(answer(11, 2, ()).unwrap_err().byte, None);
+        assert_eq!(answer_by_name(0, 0, b"", 7), Ok(7));
     }
 }
