@@ -8,7 +8,9 @@
  * - No pointer is null, also where its length is 0, and no two arguments
  *   overlap.
  * - Outputs are always stored. The offset is 0 where the table below names
- *   none; every other output is 0 with every code from 1 up.
+ *   none; it counts from the image's first byte, and with NVRAM_BAD_NAME from
+ *   the first byte of the caller's name. Every other output is 0 with every
+ *   code from 1 up.
  * - A call that answers a code from 1 up has changed no byte of the image or
  *   of the buffer.
  * - No call keeps a state; calls on different images may run at once, and so
@@ -26,9 +28,9 @@ extern "C" {
 
 /* The version of this header and of the library. */
 #define NVRAM_VERSION_MAJOR 0
-#define NVRAM_VERSION_MINOR 2
+#define NVRAM_VERSION_MINOR 3
 #define NVRAM_VERSION_PATCH 0
-#define NVRAM_VERSION "0.2.0"
+#define NVRAM_VERSION "0.3.0"
 
 /* Limits, in bytes. */
 #define NVRAM_BLOCK 16                /* a block, and a header */
@@ -40,7 +42,10 @@ extern "C" {
 
 /* Error codes, and the offset that each answers; nvram_error_text says them in
  * words. They are tested in the order 11, 1, the headers from byte 0 with 2 to
- * 4 at each, 6, the area from its first byte with 7 to 10, then 12, 13, 14. */
+ * 4 at each, 6, the area from its first byte with 7 to 10, then 12, 13, 14.
+ * With NVRAM_BAD_NAME the byte is the first one that is not allowed; the index
+ * is 0 for an empty name, and NVRAM_VARIABLE_NAME_MAX for a name that is too
+ * long and good so far. */
 enum nvram_code {
     NVRAM_DONE = 0,          /* 0 */
     NVRAM_IMAGE_LENGTH = 1,  /* 0 */
@@ -54,7 +59,7 @@ enum nvram_code {
     NVRAM_STORED_NAME = 8,   /* offset of the byte */
     NVRAM_ESCAPE = 9,        /* offset of that second byte */
     NVRAM_REPEATED = 10,     /* offset of the later pair */
-    NVRAM_BAD_NAME = 11,     /* 0 */
+    NVRAM_BAD_NAME = 11,     /* index of the byte in the name */
     NVRAM_NO_VARIABLE = 12,  /* 0 */
     NVRAM_NO_ROOM = 13,      /* 0 */
     NVRAM_SHORT_BUFFER = 14  /* 0 */
