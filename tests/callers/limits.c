@@ -1,4 +1,5 @@
-/* Holds each limit of nvram.h to the library: done at the limit, refused one past it; and the texts of its codes. */
+/* Holds each limit of nvram.h to the library: done at the limit, refused one past it; the index that a wrong name is
+ * refused at; and the texts of its codes. */
 #include <stdio.h>
 #include <string.h>
 
@@ -60,19 +61,63 @@ static void listing(void)
     want("NVRAM_LISTED_IMAGE_MAX + 1", number == 9 && memcmp(text, "too long\n", 9) == 0, 1);
 }
 
+/* Fills the image with a partition of six blocks for the variables, and answers its length. */
+static size_t common_blocks(void)
+{
+    static const uint8_t header[NVRAM_BLOCK + 1] = "\x70\x02\x00\x06" "common\0\0\0\0\0";
+    memset(image, 0, sizeof image);
+    memcpy(image, header, NVRAM_BLOCK);
+    return 6 * NVRAM_BLOCK;
+}
+
 /* A variable's name. */
 static void variables(void)
 {
-    static const uint8_t common[NVRAM_BLOCK + 1] = "\x70\x02\x00\x06" "common\0\0\0\0\0";
-    const size_t length = 6 * NVRAM_BLOCK;
+    const size_t length = common_blocks();
     uint8_t name[NVRAM_VARIABLE_NAME_MAX + 1];
-    memset(image, 0, sizeof image);
-    memcpy(image, common, NVRAM_BLOCK);
     memset(name, 'n', sizeof name);
     want("NVRAM_VARIABLE_NAME_MAX", nvram_set(image, length, name, NVRAM_VARIABLE_NAME_MAX, name, 1, &offset),
          NVRAM_DONE);
     want("NVRAM_VARIABLE_NAME_MAX + 1", nvram_set(image, length, name, NVRAM_VARIABLE_NAME_MAX + 1, name, 1, &offset),
          NVRAM_BAD_NAME);
+}
+
+/* A name is refused at this index by each call that takes one, whatever the image. */
+static void refused_at(const char *label, const uint8_t *name, size_t name_len, size_t index)
+{
+    const size_t lengths[] = {common_blocks(), NVRAM_BLOCK - 1};
+    size_t i;
+    for (i = 0; i < sizeof lengths / sizeof *lengths; i++) {
+        offset = number = NVRAM_IMAGE_MAX;
+        want(label, nvram_read(image, lengths[i], name, name_len, text, 1, &offset, &number), NVRAM_BAD_NAME);
+        want(label, (uint32_t)offset, (uint32_t)index);
+        want(label, (uint32_t)number, 0);
+        offset = NVRAM_IMAGE_MAX;
+        want(label, nvram_set(image, lengths[i], name, name_len, name, 1, &offset), NVRAM_BAD_NAME);
+        want(label, (uint32_t)offset, (uint32_t)index);
+        offset = NVRAM_IMAGE_MAX;
+        want(label, nvram_remove(image, lengths[i], name, name_len, &offset), NVRAM_BAD_NAME);
+        want(label, (uint32_t)offset, (uint32_t)index);
+    }
+}
+
+/* The index of a name's first wrong byte: of no byte, of each byte of the longest name, and of the byte past it. */
+static void wrong_bytes(void)
+{
+    uint8_t name[NVRAM_VARIABLE_NAME_MAX + 2];
+    size_t at;
+    memset(name, 'n', sizeof name);
+    refused_at("an empty name", name, 0, 0);
+    refused_at("a name of 32 bytes", name, NVRAM_VARIABLE_NAME_MAX + 1, NVRAM_VARIABLE_NAME_MAX);
+    refused_at("a name of 33 bytes", name, NVRAM_VARIABLE_NAME_MAX + 2, NVRAM_VARIABLE_NAME_MAX);
+    refused_at("an equals sign alone", (const uint8_t *)"=", 1, 0);
+    refused_at("an equals sign inside", (const uint8_t *)"a=b", 3, 1);
+    refused_at("two wrong bytes", (const uint8_t *)"boot Device", 11, 4);
+    for (at = NVRAM_VARIABLE_NAME_MAX; at-- > 0;) {
+        name[at] = 'N';
+        refused_at("a wrong byte in a name of 31 bytes", name, NVRAM_VARIABLE_NAME_MAX, at);
+        refused_at("a wrong byte in a name of 33 bytes", name, NVRAM_VARIABLE_NAME_MAX + 2, at);
+    }
 }
 
 /* Each code of the table has a text, and no other number has one. */
@@ -101,6 +146,7 @@ int main(void)
     partitions();
     listing();
     variables();
+    wrong_bytes();
     codes();
     version();
     return failures != 0;
