@@ -84,13 +84,22 @@ pub fn any_name(rng: &mut Rng) -> Vec<u8> {
     match rng.below(16) {
         0 => name.clear(),
         1 => name.resize(rng.between(31, 33), b'n'),
-        2 => {
-            let at = rng.below(name.len());
-            name[at] = rng.byte();
+        2 => change_bytes(rng, &mut name),
+        3 => {
+            name.resize(rng.between(1, 33), b'n');
+            change_bytes(rng, &mut name);
         }
         _ => {}
     }
     name
+}
+
+/// Puts up to three bytes of any kind at any indices of a name.
+fn change_bytes(rng: &mut Rng, name: &mut [u8]) {
+    for _ in 0..rng.between(1, 3) {
+        let at = rng.below(name.len());
+        name[at] = rng.byte();
+    }
 }
 
 /// A value with many bytes 0x00 and 0xFF and some long runs.

@@ -43,9 +43,17 @@ impl Request {
     }
 
     /// The buffer as it is lent, empty for calls without one.
-    fn lent(&self) -> &[u8] {
+    pub fn lent(&self) -> &[u8] {
         match self {
             Request::Read(_, buffer) | Request::Listing(buffer) => buffer,
+            _ => &[],
+        }
+    }
+
+    /// The variable's name, empty for calls without one.
+    pub fn variable(&self) -> &[u8] {
+        match self {
+            Request::Read(name, _) | Request::Set(name, _) | Request::Remove(name) => name,
             _ => &[],
         }
     }
@@ -161,8 +169,8 @@ fn raw_edit(image: &mut [u8], request: &Request, offset: &mut usize) -> u32 {
     }
 }
 
-/// Makes the call through the wrapper.
-pub fn wrapped(image: &mut [u8], request: &Request) -> Reply {
+/// Makes the call through the wrapper, and answers also the byte that its error has.
+pub fn wrapped(image: &mut [u8], request: &Request) -> (Reply, Option<u8>) {
     let mut buffer = request.lent().to_vec();
     let result: Result<[usize; 3], Error> = match request {
         Request::Check => nvram::check(image).map(|count| [count, 0, 0]),
@@ -181,10 +189,9 @@ pub fn wrapped(image: &mut [u8], request: &Request) -> Reply {
         Request::Normalize => nvram::normalize(image).map(|()| [0; 3]),
         Request::Listing(_) => nvram::listing(image, &mut buffer).map(|text| [text.len(), 0, 0]),
     };
-    reply(
-        result.map_err(|error| (error.code.number(), error.offset)),
-        buffer,
-    )
+    let byte = result.err().and_then(|error| error.byte);
+    let result = result.map_err(|error| (error.code.number(), error.offset));
+    (reply(result, buffer), byte)
 }
 
 /// A reply from the outputs, or from the code and the offset of an error.

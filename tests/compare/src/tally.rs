@@ -5,11 +5,17 @@ use std::collections::{BTreeSet, HashSet};
 /// The codes that the library may answer.
 pub const CODES: [u32; 14] = [0, 1, 2, 3, 4, 6, 7, 8, 9, 10, 11, 12, 13, 14];
 
-/// The codes whose offset is that of a header or of a byte in a data area.
-const WITH_OFFSET: [u32; 7] = [2, 3, 4, 7, 8, 9, 10];
+/// The code whose offset is an index in the caller's name.
+const BAD_NAME: u32 = 11;
 
-/// The number of different offsets wanted of each such code.
+/// The codes whose offset is that of a header, of a byte in a data area, or of a byte in the caller's name.
+const WITH_OFFSET: [u32; 8] = [2, 3, 4, 7, 8, 9, 10, BAD_NAME];
+
+/// The number of different offsets wanted of each such code but 11.
 const FEWEST_OFFSETS: usize = 40;
+
+/// The greatest offset of 11, the index of the byte past a longest name; each one from 0 to it is wanted.
+const LAST_INDEX: usize = 31;
 
 /// The counts of one case or of a whole run.
 #[derive(Default)]
@@ -52,12 +58,20 @@ impl Tally {
         self.offsets.iter().filter(|seen| seen.0 == code).count()
     }
 
+    /// Tells whether a code was met at the offsets that are wanted of it.
+    fn enough(&self, code: u32) -> bool {
+        match code {
+            BAD_NAME => (0..=LAST_INDEX).all(|index| self.offsets.contains(&(code, index))),
+            _ => self.offsets_of(code) >= FEWEST_OFFSETS,
+        }
+    }
+
     /// The codes that a run lacks or should not have, or nothing.
     pub fn lacking(&self) -> Option<String> {
         let unmet = self.counts().filter(|(_, count)| *count == 0);
         let unmet: Vec<u32> = unmet.map(|(code, _)| code).collect();
-        let few = |code: &u32| self.offsets_of(*code) < FEWEST_OFFSETS;
-        let few: Vec<u32> = WITH_OFFSET.into_iter().filter(few).collect();
+        let few = WITH_OFFSET.into_iter().filter(|&code| !self.enough(code));
+        let few: Vec<u32> = few.collect();
         if unmet.is_empty() && few.is_empty() && self.others.is_empty() {
             return None;
         }

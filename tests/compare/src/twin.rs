@@ -72,12 +72,17 @@ impl Twin {
             true => self.before.clone(),
             false => self.reference.clone(),
         };
-        let found = wrapped(&mut copy, request);
+        let (found, byte) = wrapped(&mut copy, request);
         ctx.comparisons += 1;
-        if found == *wanted && copy == self.reference {
-            return Ok(());
+        if found != *wanted || copy != self.reference {
+            return Err(self.failure(ctx, request, "wrapper", wanted, &found));
         }
-        Err(self.failure(ctx, request, "wrapper", wanted, &found))
+        let wanted_byte = wrong_byte(request, wanted);
+        if byte != wanted_byte {
+            let who = format!("byte in the wrapper's error, {byte:?} in place of {wanted_byte:?}");
+            return Err(self.failure(ctx, request, &who, wanted, &found));
+        }
+        Ok(())
     }
 
     /// Makes a call on the library, the reference and the reference model.
@@ -148,6 +153,14 @@ impl Twin {
         Some(format!(
             "image offset {at} wanted {wanted:02x}, found {found:02x}"
         ))
+    }
+}
+
+/// The byte of the caller's name at the index that 11 answers, if there is one.
+fn wrong_byte(request: &Request, reply: &Reply) -> Option<u8> {
+    match reply.code {
+        11 => request.variable().get(reply.offset).copied(),
+        _ => None,
     }
 }
 

@@ -171,7 +171,7 @@ pub fn random_areas(ctx: &mut Context) -> Outcome {
 }
 
 /// Images with one fault of each kind, which calls with faults of their own then meet.
-fn faulty_images() -> Vec<(&'static str, Vec<u8>)> {
+pub fn faulty_images() -> Vec<(&'static str, Vec<u8>)> {
     let with_area = |area: &[u8]| build::image(&[Part::common(area.to_vec()), Part::free(1)]);
     let mut zero_length = build::base();
     zero_length[34..36].fill(0);

@@ -39,6 +39,8 @@ pub const CASES: &[Case] = &[
     case("fault-order", areas::fault_order),
     case("damage", areas::damage),
     case("names", names::names),
+    case("name-indices", names::name_indices),
+    case("stored-indices", names::stored_indices),
     case("value-mixtures", values::mixtures),
     case("value-runs", values::runs),
     case("value-bytes", values::two_bytes),

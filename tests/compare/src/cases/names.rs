@@ -1,29 +1,113 @@
-//! Variable names given by the caller.
+//! Variable names: the caller's, and the same bytes as stored ones.
 
+use super::areas::faulty_images;
 use crate::build::{self, Part};
 use crate::context::{Context, Outcome};
+use crate::request::Request;
 use crate::twin::Twin;
 use reference::model::{Call, Model};
 
-/// Names of every length up to 40 and some long ones, and each byte at some positions of a name.
-pub fn names(ctx: &mut Context) -> Outcome {
-    let mut list: Vec<Vec<u8>> = (0..=40).map(|length| vec![b'n'; length]).collect();
-    list.extend([255, 256, 257, 1_000, 65_535, 65_536, 70_000].map(|length| vec![b'n'; length]));
-    for byte in 0..=255 {
-        list.push(vec![byte]);
-        list.push(vec![b'a', byte]);
-        list.push(vec![byte, b'a']);
-        list.push(vec![b'a', b'a', byte, b'a', b'a']);
-        for length in [31, 32] {
-            for at in [0, 15, length - 1] {
+/// The bytes that may stand in a name.
+const ALLOWED: &[u8; 61] = b"!\"#$%&'()*+,-.0123456789;<>?^_`abcdefghijklmnopqrstuvwxyz{|}~";
+
+/// The index that a wrong name is refused at: 0 for an empty one, else the least one that is 31 or whose byte is not allowed.
+fn wrong_index(name: &[u8]) -> Option<usize> {
+    match name.len() {
+        0 => Some(0),
+        length => (0..length).find(|&index| index == 31 || !ALLOWED.contains(&name[index])),
+    }
+}
+
+/// Names with the indices that they are refused at, as the rule gives them by hand.
+fn known_names() -> Vec<(Vec<u8>, usize)> {
+    let with = |length: usize, at: usize, byte: u8| {
+        let mut name = vec![b'n'; length];
+        name[at] = byte;
+        name
+    };
+    let short: [(&[u8], usize); 12] = [
+        (b"", 0),
+        (b"A", 0),
+        (b"=", 0),
+        (b"=a", 0),
+        (b"a=", 1),
+        (b"a=b", 1),
+        (b"a=b=c", 1),
+        (b"ab=C", 2),
+        (b"abC=", 2),
+        (b"a\0", 1),
+        (b"boot device", 4),
+        (b"bootDevice/Path", 4),
+    ];
+    let long = [
+        (vec![b'n'; 32], 31),
+        (vec![b'n'; 33], 31),
+        (vec![b'n'; 1_000_000], 31),
+        (with(31, 30, b'='), 30),
+        (with(32, 31, b'='), 31),
+        (with(33, 32, b'='), 31),
+        (with(1_000_000, 0, b'='), 0),
+        (with(1_000_000, 30, b'='), 30),
+        (with(1_000_000, 999_999, b'='), 31),
+    ];
+    let short = short.map(|(name, index)| (name.to_vec(), index));
+    short.into_iter().chain(long).collect()
+}
+
+/// Names of every length up to 40 and some long ones.
+fn lengths() -> impl Iterator<Item = Vec<u8>> {
+    let long = [255, 256, 257, 1_000, 65_535, 65_536, 70_000];
+    (0..=40).chain(long).map(|length| vec![b'n'; length])
+}
+
+/// Each byte at the first, the middle and the last index of names of several lengths.
+fn each_byte(ctx: &Context) -> Vec<Vec<u8>> {
+    let step = if ctx.quick { 11 } else { 1 };
+    let mut list = Vec::new();
+    for length in [1, 2, 3, 5, 16, 31, 32, 33] {
+        let mut indices = vec![0, length / 2, length - 1];
+        indices.dedup();
+        for at in indices {
+            for byte in (0..=255).step_by(step) {
                 let mut name = vec![b'n'; length];
                 name[at] = byte;
                 list.push(name);
             }
         }
     }
-    for name in &list {
-        name_calls(ctx, name)?;
+    list
+}
+
+/// Names up to 34 bytes with a wrong byte at each index and others after it.
+fn several_bytes(ctx: &mut Context) -> Vec<Vec<u8>> {
+    const WRONG: [u8; 9] = [0x00, b' ', b'/', b'=', b'A', b'Z', b']', 0x7F, 0xFF];
+    let mut list = Vec::new();
+    for length in 1..=34 {
+        for first in 0..length {
+            let mut name = vec![b'n'; length];
+            for _ in 0..3 {
+                name[ctx.rng.between(first, length - 1)] = *ctx.rng.pick(&WRONG);
+            }
+            name[first] = *ctx.rng.pick(&WRONG);
+            list.push(name);
+        }
+    }
+    list
+}
+
+/// All names of this file.
+fn all_names(ctx: &mut Context) -> Vec<Vec<u8>> {
+    let known = known_names().into_iter().map(|(name, _)| name);
+    let mut list: Vec<Vec<u8>> = known.chain(lengths()).collect();
+    list.extend(each_byte(ctx));
+    list.extend(several_bytes(ctx));
+    list
+}
+
+/// The calls by each name on a small image, compared also with the reference model.
+pub fn names(ctx: &mut Context) -> Outcome {
+    for name in all_names(ctx) {
+        name_calls(ctx, &name)?;
     }
     Ok(())
 }
@@ -64,4 +148,87 @@ fn name_calls(ctx: &mut Context, name: &[u8]) -> Outcome {
         twin.call_model(ctx, &mut model, call)?;
     }
     twin.same_entries(ctx, &model)
+}
+
+/// The calls by each name on an image without a fault and on one of each fault, with the index that is wanted.
+pub fn name_indices(ctx: &mut Context) -> Outcome {
+    for (name, index) in known_names() {
+        ctx.same("the index of the rule", wrong_index(&name), Some(index))?;
+    }
+    let list = all_names(ctx);
+    for (fault, image) in faulty_images() {
+        let mut twin = Twin::new(&image);
+        for name in &list {
+            ctx.recipe = format!("a name of {} bytes, and fault: {fault}", name.len());
+            calls_by_name(ctx, &mut twin, &image, name)?;
+        }
+    }
+    Ok(())
+}
+
+/// Reads, sets and removes by a name; a wrong one is refused with 11 at its index, and every byte is kept.
+fn calls_by_name(ctx: &mut Context, twin: &mut Twin, image: &[u8], name: &[u8]) -> Outcome {
+    let index = wrong_index(name);
+    let calls = [
+        Request::Read(name.to_vec(), vec![0xBD; 3]),
+        Request::Set(name.to_vec(), b"1".to_vec()),
+        Request::Remove(name.to_vec()),
+    ];
+    for call in &calls {
+        let reply = twin.call(ctx, call)?;
+        let Some(index) = index else {
+            ctx.same("11 for a good name", reply.code == 11, false)?;
+            twin.load(image);
+            continue;
+        };
+        let found = (reply.code, reply.offset, reply.amounts);
+        ctx.same("11 at its index", found, (11, index, [0; 3]))?;
+        ctx.same("the buffer as it was", &reply.buffer[..], call.lent())?;
+        ctx.same("the image as it was", twin.image(), image)?;
+    }
+    Ok(())
+}
+
+/// Each name as stored bytes, before a value and at the area's end, with the code and offset that are wanted of a count.
+pub fn stored_indices(ctx: &mut Context) -> Outcome {
+    let mut twin = Twin::new(&[]);
+    for name in all_names(ctx) {
+        ctx.recipe = format!("a stored name of {} bytes before a value", name.len());
+        let start = [b"c=1\0", &name[..], b"=v\0\0"].concat();
+        let area = build::padded(&start, start.len().div_ceil(16) * 16, 0);
+        stored_name(ctx, &mut twin, area, 4)?;
+        ctx.recipe = format!("a stored name of {} bytes at the area's end", name.len());
+        let length = (name.len() + 4).div_ceil(16) * 16;
+        let at = length - name.len();
+        let value = build::padded(b"c=", at - 1, b'x');
+        stored_name(ctx, &mut twin, [&value, &b"\0"[..], &name].concat(), at)?;
+    }
+    Ok(())
+}
+
+/// Counts the variables of an area whose pair at an offset may have a wrong name.
+fn stored_name(ctx: &mut Context, twin: &mut Twin, area: Vec<u8>, at: usize) -> Outcome {
+    let start = 32;
+    let wanted = stored_fault(&area[at..]).map(|(code, offset)| (code, start + at + offset));
+    let ends = area.get(at) == Some(&0);
+    twin.load(&build::image(&[Part::free(1), Part::common(area)]));
+    let reply = twin.call(ctx, &Request::Count)?;
+    let found = (reply.code, reply.offset);
+    match wanted {
+        _ if ends => ctx.same("the end of the pairs", found, (0, 0)),
+        Some(wanted) => ctx.same("the fault of a stored name", found, wanted),
+        None => Ok(()),
+    }
+}
+
+/// The fault of the name that begins what is left of an area: 8 at its first wrong byte, or 7 at the end if no `=` ends it.
+fn stored_fault(left: &[u8]) -> Option<(u32, usize)> {
+    let equals = left.iter().position(|&byte| byte == b'=');
+    let name = &left[..equals.unwrap_or(left.len())];
+    match (wrong_index(name), equals) {
+        _ if left.is_empty() => Some((7, 0)),
+        (Some(index), _) => Some((8, index)),
+        (None, None) => Some((7, left.len())),
+        (None, Some(_)) => None,
+    }
 }
