@@ -109,6 +109,7 @@ static void wrong_bytes(void)
     memset(name, 'n', sizeof name);
     refused_at("an empty name", name, 0, 0);
     refused_at("a name of 32 bytes", name, NVRAM_VARIABLE_NAME_MAX + 1, NVRAM_VARIABLE_NAME_MAX);
+    name[NVRAM_VARIABLE_NAME_MAX + 1] = 'N';
     refused_at("a name of 33 bytes", name, NVRAM_VARIABLE_NAME_MAX + 2, NVRAM_VARIABLE_NAME_MAX);
     refused_at("an equals sign alone", (const uint8_t *)"=", 1, 0);
     refused_at("an equals sign inside", (const uint8_t *)"a=b", 3, 1);

@@ -23,9 +23,10 @@ fn refused(image: &[u8], name: &[u8]) -> [Error; 3] {
 
 #[test]
 fn wrong_byte_is_told_with_its_index() {
-    let mut late = [b'n'; 40];
-    late[30] = 0x80;
-    let names: [(&[u8], usize, Option<u8>); 9] = [
+    let (mut last, mut past) = ([b'n'; 40], [b'n'; 40]);
+    last[30] = 0x80;
+    past[32] = 0x80;
+    let names: [(&[u8], usize, Option<u8>); 10] = [
         (b"", 0, None),
         (b"A", 0, Some(b'A')),
         (b"bootDevice", 4, Some(b'D')),
@@ -34,7 +35,8 @@ fn wrong_byte_is_told_with_its_index() {
         (b"a=1", 1, Some(b'=')),
         (b"ab\0", 2, Some(0)),
         (&[b'n'; 32], 31, Some(b'n')),
-        (&late, 30, Some(0x80)),
+        (&last, 30, Some(0x80)),
+        (&past, 31, Some(b'n')),
     ];
     let faulty = vec![0; 7];
     for image in [image(), faulty] {
