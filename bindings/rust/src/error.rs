@@ -70,7 +70,7 @@ impl fmt::Display for Code {
 pub struct Error {
     /// The fault.
     pub code: Code,
-    /// The offset of the fault in the image, 0 where the code has none; with `Code::BadName` the index in the caller's name.
+    /// The offset of the fault in the image, 0 where it has none; with `Code::BadName` the index in the caller's name.
     pub offset: usize,
     /// The byte of the caller's name at that index, where the code is `Code::BadName` and there is one.
     pub byte: Option<u8>,

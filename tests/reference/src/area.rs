@@ -35,7 +35,7 @@ pub fn is_name_byte(byte: u8) -> bool {
     matches!(byte, 0x21..=0x7E) && !byte.is_ascii_uppercase() && !b"/\\:[]@=".contains(&byte)
 }
 
-/// Where the first wrong byte of a name is: its index, 0 for an empty name, 31 for a name that is too long and good so far.
+/// Where the first wrong byte of a name is: its index, 0 for an empty name, 31 for one too long and good so far.
 pub fn first_wrong(name: &[u8]) -> Option<usize> {
     if name.is_empty() {
         return Some(0);
@@ -79,7 +79,7 @@ pub fn parse(area: &[u8], start: usize) -> Result<Vec<Pair>, Refusal> {
     }
 }
 
-/// Parses the name that begins at `at`: what stands before the `=`, or all that is left of the area where there is none.
+/// Parses the name that begins at `at`: what stands before the `=`, or all that is left of the area if there is none.
 fn parse_name(area: &[u8], start: usize, at: usize) -> Result<&[u8], Refusal> {
     let left = &area[at..];
     let equals = left.iter().position(|&byte| byte == b'=');

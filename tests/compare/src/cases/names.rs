@@ -10,7 +10,7 @@ use reference::model::{Call, Model};
 /// The bytes that may stand in a name.
 const ALLOWED: &[u8; 61] = b"!\"#$%&'()*+,-.0123456789;<>?^_`abcdefghijklmnopqrstuvwxyz{|}~";
 
-/// The index that a wrong name is refused at: 0 for an empty one, else the least one that is 31 or whose byte is not allowed.
+/// Where a wrong name is refused: at 0 if it is empty, else at the least index that is 31 or whose byte is not allowed.
 fn wrong_index(name: &[u8]) -> Option<usize> {
     match name.len() {
         0 => Some(0),
@@ -189,7 +189,7 @@ fn calls_by_name(ctx: &mut Context, twin: &mut Twin, image: &[u8], name: &[u8]) 
     Ok(())
 }
 
-/// Each name as stored bytes, before a value and at the area's end, with the code and offset that are wanted of a count.
+/// Each name as stored bytes, before a value and at the area's end, with the answer that is wanted of a count.
 pub fn stored_indices(ctx: &mut Context) -> Outcome {
     let mut twin = Twin::new(&[]);
     for name in all_names(ctx) {
@@ -221,7 +221,7 @@ fn stored_name(ctx: &mut Context, twin: &mut Twin, area: Vec<u8>, at: usize) -> 
     }
 }
 
-/// The fault of the name that begins what is left of an area: 8 at its first wrong byte, or 7 at the end if no `=` ends it.
+/// The fault of the name at the start of what is left of an area: 8 at its first wrong byte, or 7 where no `=` ends it.
 fn stored_fault(left: &[u8]) -> Option<(u32, usize)> {
     let equals = left.iter().position(|&byte| byte == b'=');
     let name = &left[..equals.unwrap_or(left.len())];
