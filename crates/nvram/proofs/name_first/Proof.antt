@@ -4,9 +4,6 @@ use Rattle.nvram.proofs.CodeLaws.{bad-first, good-second}
 use borrow.Author.Needs.{needs}
 use Rattle.nvram.proofs.name_first.Statement.{statement}
 use Rattle.nvram.proofs.name_first.Tie as tie
-use Rattle.nvram.proofs.name_first.Reads as reads
-use Rattle.nvram.proofs.name_first.Lts as lts
-use Rattle.names.proofs.check.Reads as check-reads
 
 check-requires : tie.Need-check-requires
 check-requires c κs = search needs
