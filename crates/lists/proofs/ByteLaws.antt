@@ -1,5 +1,5 @@
 -- Laws of lists of bytes: of the test that two are the same, and of what all elements are.
-use Prim.Native.Nat.{ℕ, zero, suc, _+_, _<_}
+use Prim.Native.Nat.{ℕ, zero, suc, _+_, _≤_, _<_}
 use mathlib.Core.Path.{_≡_, refl}
 use mathlib.Core.Bool.{true, false, _&&_}
 use mathlib.Core.List.{List, [], _∷_}
@@ -60,6 +60,16 @@ pub every-get : (P : ℕ → Type 0) → P 0 → (l : List ℕ) (k : ℕ) → Ev
 every-get P z [] k h = z
 every-get P z (x ∷ l) zero h = h .0
 every-get P z (x ∷ l) (suc k) h = every-get P z l k (h .1)
+
+pub every-at : (P : ℕ → Type 0) (l : List ℕ) (k : ℕ) → k < length l → Every P l → P (getD l k 0)
+every-at P [] k h a = absurd (omega arith)
+every-at P (x ∷ l) zero h a = a .0
+every-at P (x ∷ l) (suc k) h a = every-at P l k (omega arith) (a .1)
+
+pub every-before : (P : ℕ → Type 0) (l : List ℕ) (i : ℕ) → i ≤ length l → ((k : ℕ) → k < i → P (getD l k 0)) → Every P (take i l)
+every-before P l zero h f = tt
+every-before P [] (suc i) h f = absurd (omega arith)
+every-before P (x ∷ l) (suc i) h f = (f 0 (omega arith), every-before P l i (omega arith) (λ k q. f (suc k) (omega arith)))
 
 pub all-bytes : (l : List ℕ) → ((i : ℕ) → getD l i 0 < 256) → AllBytes l
 all-bytes [] h = tt

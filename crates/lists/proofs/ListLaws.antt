@@ -24,6 +24,10 @@ pub every-replicate : (P : ℕ → Type 0) (n b : ℕ) → P b → Every P (repl
 every-replicate P zero b h = tt
 every-replicate P (suc n) b h = (h, every-replicate P n b h)
 
+pub every-map : (P Q : ℕ → Type 0) → ((b : ℕ) → P b → Q b) → (l : List ℕ) → Every P l → Every Q l
+every-map P Q f [] h = tt
+every-map P Q f (x ∷ l) h = (f x (h .0), every-map P Q f l (h .1))
+
 -- zeros, and zero past their end
 pub zeros-at : (n i : ℕ) → _≡_ {A = ℕ} (getD (replicate n 0) i 0) 0
 zeros-at zero i = refl

@@ -60,6 +60,9 @@ rule-byte b r =
 pub name-byte-exactly : (b : ℕ) → (nameByte b ≡ true) ↔ NameByte b
 name-byte-exactly b = (byte-rule b, rule-byte b)
 
+pub name-not-zero : {b : ℕ} → NameByte b → b ≢ 0x00
+name-not-zero n = λ e. omega (arith, n .least)
+
 pub not-byte : (b : ℕ) → ¬ (NameByte b) → nameByte b ≡ false
 not-byte b h = split (nameByte b) (λ t. absurd (h (byte-rule b t))) (λ t. t)
 
@@ -235,6 +238,10 @@ wrong-at-one {name} {i} {j} v w =
 pub wrong-most : {name : List ℕ} {i : ℕ} → FirstWrong name i → i ≤ 31
 wrong-most (empty e f) = omega arith
 wrong-most (byte h l before q) = l
+
+pub wrong-inside : {name : List ℕ} {i : ℕ} → FirstWrong name i → i ≤ length name
+wrong-inside (empty e f) = omega arith
+wrong-inside (byte h l before q) = omega arith
 
 -- ---- the check byte by byte: the bytes before i are checked
 

@@ -30,7 +30,7 @@ use Rattle.variables.specs.declared.Edited.the-variants as Edited
 use Rattle.variables.specs.Calls.{Action, setTo, removal, readInto, Call, named, set, remove, normalize, read, count, lent, callCheck, Reply, callArea}
 use Rattle.variables.specs.Helpers.{replyOffset}
 use Rattle.variables.specs.Views.{countReply, readReply, editReply}
-use Rattle.variables.proofs.CallLaws.{check-named, check-normalize, check-count, Bufferless, a-count, buffer-none, reply-inside}
+use Rattle.variables.proofs.CallLaws.{check-named, check-normalize, check-count, Bufferless, a-count, buffer-none, reply-bounded}
 use Rattle.nvram.specs.declared.Span.{Span}
 use Rattle.nvram.specs.declared.Span.the-variants as Span
 use Rattle.nvram.specs.Common.{commonSignature, common, commonOf}
@@ -138,11 +138,11 @@ module _ (I : List ℕ) (s e : ℕ) (k : AreaAt I s e) where
   abbrev given : List ℕ
   given = take (e - s) (drop s I)
 
-  -- an offset in the area, or below 32 in the caller's name, is far below 2 ^ 64 when it is moved
+  -- an offset in the area, or below 32 in the caller's name, is far below 2 ^ 64, also with the area's own added
   pub offset-at : (call : Call) (a : Reply) → a ≡ callArea call given .reply → s + replyOffset a ≤ length I + 31
   offset-at call a q =
       let b : length given ≤ e - s = omega (arith, length-take (e - s) (drop s I)) in
-      let i = reply-inside call given in
+      let i = reply-bounded call given in
       let z = ap replyOffset q in
       omega (arith, k .order, k .inside)
 

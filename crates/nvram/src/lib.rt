@@ -55,7 +55,7 @@ fn common_area(image: &[u8]) -> Span
     }
 }
 
-// A fault of an area that begins at `by`, with its offset in the image.
+// A fault of an area that begins at `by`, with its offset in the image; any other error as it is.
 fn moved_error(e: Error, by: usize) -> Error
     requires { ⌜ by + offsetOf e < 2 ^ 64 ⌝ }
     ensures { λ r. ⌜ r ≡ moved by e ⌝ }

@@ -10,13 +10,15 @@ use Rattle.lists.specs.Bytes.{AllBytes, sameBytes, stands}
 use Rattle.lists.proofs.Tests.{split, clash}
 use Rattle.errors.specs.declared.AreaFault.{AreaFault}
 use Rattle.errors.specs.declared.AreaFault.the-variants.{AreaEnd, StoredName, Escape, Repeated}
-use Rattle.names.specs.Rules.{NameRule, FirstWrong, empty, byte}
+use Rattle.names.specs.Rules.{NameRule}
+use Rattle.names.proofs.NameLaws.{wrong-inside}
 use Rattle.values.specs.Value.{spelled, decode}
 use Rattle.values.specs.Rules.{Spells}
 use Rattle.values.proofs.DecodeLaws.{spells-exactly, spells-spelled}
 use Rattle.pairs.specs.Scan.{Stand, cut, wrongName, wrongEscape}
 use Rattle.pairs.specs.Area.{Pair, pairOf, pairsBytes, Parse, faulty, firstPair, onStand, parseFrom, parse}
-use Rattle.pairs.specs.Rules.{Entry, In, sizes, UpToEquals, by-equals, by-end, CutOff, in-name, in-value, in-escape, FaultAt, seven, eight, nine, ten, Faulty}
+use Rattle.pairs.specs.Rules.{Entry, In, sizes, CutOff, in-name, in-value, in-escape, FaultAt, seven, eight, nine, ten, Faulty}
+use Rattle.pairs.proofs.NameScans.{up-short}
 use Rattle.pairs.proofs.ScanLaws.{Standing, a-pair, the-end, cut-name, cut-value, cut-escape, a-wrong-name, a-wrong-escape, standing}
 use Rattle.pairs.proofs.ParseLaws.{Good, none, more, length-whole, length-pairs, pair-front, parseRest}
 use Rattle.pairs.proofs.ParseLaws.{parse-start, parse-standing, parse-pair, first-faulty, every-left, every-right}
@@ -223,16 +225,8 @@ faulty-exactly area f at b = (parses-faulty area f at b, faulty-parses area f at
 
 -- ---- a fault's offset stands in the area
 
-up-short : {name bs : List ℕ} → UpToEquals name bs → length name ≤ length bs
-up-short (by-equals {name = name} rest a) = omega (arith, length-append name (0x3D ∷ rest))
-up-short (by-end a) = omega arith
-
-first-inside : {name : List ℕ} {i : ℕ} → FirstWrong name i → i ≤ length name
-first-inside (empty e f) = omega arith
-first-inside (byte h l before q) = omega arith
-
 name-inside : {rest : List ℕ} {k : ℕ} → Standing rest (wrongName k) → k ≤ length rest
-name-inside (a-wrong-name z u w) = omega (arith, up-short u, first-inside w)
+name-inside (a-wrong-name z u w) = omega (arith, up-short u, wrong-inside w)
 
 escape-inside : {rest : List ℕ} {k : ℕ} → Standing rest (wrongEscape k) → k ≤ length rest
 escape-inside (a-wrong-escape {c = c} {name = name} stored rest n v w) =

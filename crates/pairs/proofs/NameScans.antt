@@ -1,15 +1,16 @@
--- What a scan of a stored name finds, by the check of the bytes up to its `=`.
-use Prim.Native.Nat.{ℕ}
+-- One byte more in front of a scan; the stored name as the bytes up to its `=`; and what its scan finds, by the check of these bytes.
+use Prim.Native.Nat.{ℕ, _≤_}
 use mathlib.Core.Path.{_≡_, refl, ap, _∙_}
 use mathlib.Core.List.{List, [], _∷_, _++_}
 use mathlib.Core.Logic.{_≢_, _↔_}
 use native.Mathlib.Omega.{arith}
-use lib.ListN.{length, drop, drop-of-length-le}
+use lib.ListN.{length, drop, length-append, drop-of-length-le}
 use lib.Dec.{eqb}
 use lib.Seq.{drop-at}
 use borrow.Author.Tests.{eqb-true, eqb-false, ne-eqb}
 use Rattle.lists.specs.Bytes.{Every}
 use Rattle.lists.proofs.Tests.{split, clash}
+use Rattle.lists.proofs.ListLaws.{every-map}
 use Rattle.names.specs.declared.NameCheck.the-variants.{Good, Wrong}
 use Rattle.names.specs.Name.{nameCheck}
 use Rattle.names.specs.Rules.{NameByte, NameRule, FirstWrong}
@@ -78,10 +79,13 @@ up-stored (by-end {name = name} a) = stored-unended name a
 pub stored-exactly : (bs name : List ℕ) → (storedName bs ≡ name) ↔ UpToEquals name bs
 stored-exactly bs name = (λ e. rw (← e) (stored-up bs), up-stored)
 
+pub up-short : {name bs : List ℕ} → UpToEquals name bs → length name ≤ length bs
+up-short (by-equals {name = name} rest a) = omega (arith, length-append name (0x3D ∷ rest))
+up-short (by-end a) = omega arith
+
 -- allowed bytes hold no `=`
 no-equals : (name : List ℕ) → Every NameByte name → Every (λ b. b ≢ 0x3D) name
-no-equals [] a = tt
-no-equals (b ∷ name) a = (a .0 .no-equals, no-equals name (a .1))
+no-equals name a = every-map NameByte (λ b. b ≢ 0x3D) (λ b n. n .no-equals) name a
 
 -- ---- the scan, by what the check finds
 

@@ -11,7 +11,8 @@ use borrow.Author.Tests.{eq-eqb, ne-eqb, eqb-true, eqb-false}
 use Rattle.lists.specs.Bytes.{Every}
 use Rattle.lists.proofs.Tests.{split, clash}
 use Rattle.names.specs.Rules.{NameByte}
-use Rattle.lists.proofs.ListLaws.{drop-next}
+use Rattle.names.proofs.NameLaws.{name-not-zero}
+use Rattle.lists.proofs.ListLaws.{drop-next, every-map}
 use Rattle.repeats.specs.Pieces.{endsName}
 use Rattle.pairs.specs.declared.ScanEnd.{ScanEnd}
 use Rattle.pairs.specs.declared.ScanEnd.the-variants.{At, Wrong, Cut}
@@ -48,13 +49,12 @@ abbrev pub NotZero : ℕ → Type 0
 NotZero b = eqb b 0 ≡ false
 
 -- a byte of a name ends none
-names-go : (name : List ℕ) → Every NameByte name → Every Goes name
+name-goes : (b : ℕ) → NameByte b → Goes b
 unfolding endsName
-names-go [] a = tt
-names-go (b ∷ name) a = (rw (ne-eqb b 61 (a .0 .no-equals), ne-eqb b 0 (λ e. omega (arith, a .0 .least))), names-go name (a .1))
+name-goes b n = rw (ne-eqb b 61 (n .no-equals), ne-eqb b 0 (name-not-zero n))
 
 pub name-taken : (l name rest : List ℕ) → scanName l ≡ ends name rest → Taken 0x3D Goes l name rest
-name-taken l name rest e = let n = name-scan l name rest e in record { is = n .0; clean = names-go name (n .1 .each) }
+name-taken l name rest e = let n = name-scan l name rest e in record { is = n .0; clean = every-map NameByte Goes name-goes name (n .1 .each) }
 
 or-first : (a b : Bool) → (a || b) ≡ false → a ≡ false
 or-first true b e = e

@@ -11,6 +11,7 @@ use borrow.Author.Tests.{eqb-true, eqb-false, ne-eqb}
 use Rattle.lists.specs.Bytes.{Every}
 use Rattle.lists.proofs.Tests.{split, clash}
 use Rattle.names.specs.Rules.{NameByte, NameRule, FirstWrong}
+use Rattle.names.proofs.NameLaws.{name-not-zero}
 use Rattle.values.specs.Value.{spelled, spelledFrom}
 use Rattle.pairs.specs.Scan.{Scan, ends, bad, short, and, scanName, scanValue, Stand, pair, finish, cut, wrongName, wrongEscape, onValue, onName, standAt}
 use Rattle.pairs.specs.Rules.{UpToEquals}
@@ -300,9 +301,6 @@ pub data Standing : List ℕ → Stand → Type 0 where
 abbrev pub Begun : List ℕ → Type 0
 Begun [] = ⊥
 Begun (b ∷ bs) = b ≢ 0x00
-
-name-not-zero : {b : ℕ} → NameByte b → b ≢ 0x00
-name-not-zero {b} n = λ e. omega (arith, n .least)
 
 begun-name : {name : List ℕ} (t : List ℕ) → NameRule name → Begun (name ++ t)
 begun-name {name = []} t r = absurd (omega (arith, r .least))

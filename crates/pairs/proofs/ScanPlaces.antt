@@ -1,4 +1,4 @@
--- Laws of the offset where a scan ends: the code's turns, byte by byte, and the pieces that a scan takes off.
+-- Laws of the offset where a scan ends: of a stored name by the allowed bytes at its start, of a stored value by the code's turns.
 use Prim.Native.Nat.{ℕ, zero, suc, _+_, _-_, _%_, _<_, _≤_}
 use mathlib.Core.Path.{_≡_, refl, sym, ap, subst, _∙_}
 use mathlib.Core.Bool.{Bool, true, false, _||_}
@@ -23,7 +23,7 @@ use Rattle.lists.proofs.FindLaws.{until-short, either-ahead, either-there, eith
 use Rattle.pairs.specs.declared.ScanEnd.the-variants.{At, Wrong, Cut}
 use Rattle.pairs.specs.Scan.{Scan, ends, bad, short, and, storedName, pastName, scanName, scanValue}
 use Rattle.pairs.specs.Helpers.{endsAt, endOf}
-use Rattle.pairs.proofs.NameScans.{stored-none, stored-equals, stored-next, scan-good, scan-wrong}
+use Rattle.pairs.proofs.NameScans.{stored-none, stored-equals, stored-next, stored-exactly, up-short, scan-good, scan-wrong}
 
 -- one byte more in front
 end-and : (from at b : ℕ) (s : Scan) → endOf from at (and b s) ≡ endOf from (at + 1) s
@@ -51,11 +51,7 @@ stored-ahead (b ∷ bs) =
     (λ u. ahead-here b (storedName bs) u ∙ sym (ahead-here b bs u)))
 
 stored-short : (l : List ℕ) → length (storedName l) ≤ length l
-stored-short [] = omega (arith, ap length stored-none)
-stored-short (b ∷ bs) =
-    split (eqb b 0x3D)
-    (λ t. omega (arith, ap (λ (x : ℕ). length (storedName (x ∷ bs))) (eqb-true b 0x3D t), ap length (stored-equals bs)))
-    (λ t. omega (arith, ap length (stored-next b bs (eqb-false b 0x3D t)), stored-short bs))
+stored-short l = up-short (stored-exactly l (storedName l) .0 refl)
 
 -- and no other where `=` follows them
 stored-here : (l : List ℕ) → getD l (allowedAhead l) 0 ≡ 0x3D → length (storedName l) ≤ allowedAhead l

@@ -1,6 +1,6 @@
 -- Document 01's sentence on code 8 says the same as the row: the first byte of a stored name that is not allowed and not `=`, an `=` at
 -- once, or a 32nd byte that is not `=`.
-use Prim.Native.Nat.{ℕ, zero, suc, _+_, _<_, _≤_}
+use Prim.Native.Nat.{ℕ, _+_, _<_, _≤_}
 use mathlib.Core.Path.{_≡_, refl, sym, ap, _∙_}
 use mathlib.Core.List.{List, [], _∷_, _++_, append-assoc, append-nil}
 use mathlib.Core.Logic.{_≢_, _⊎_, inl, inr, _↔_}
@@ -12,42 +12,17 @@ use borrow.Author.Tests.{eqb-true, eqb-false}
 use Rattle.lists.specs.Bytes.{Every}
 use Rattle.lists.proofs.Tests.{split, clash}
 use Rattle.lists.proofs.ListLaws.{drop-next}
+use Rattle.lists.proofs.ByteLaws.{every-at, every-before}
 use Rattle.errors.specs.declared.AreaFault.the-variants.{StoredName}
 use Rattle.names.specs.Rules.{NameByte, FirstWrong, empty, byte}
+use Rattle.names.proofs.NameLaws.{name-not-zero}
 use Rattle.pairs.specs.Scan.{storedName}
 use Rattle.pairs.specs.Rules.{Entry, sizes, UpToEquals, by-equals, by-end, FaultAt, eight}
+use Rattle.pairs.specs.Rules.{Decides, not-allowed, equals-at-once, thirty-second, DecidedAt}
 use Rattle.pairs.proofs.NameScans.{stored-next, up-next, stored-exactly}
 use Rattle.pairs.proofs.ScanLaws.{Begun}
 
--- a byte of a stored name that decides code 8, after k bytes that are allowed
-pub data Decides (k b : ℕ) : Type 0 where
-  not-allowed : b ≢ 0x3D → ¬ (NameByte b) → Decides k b
-  equals-at-once : b ≡ 0x3D → k ≡ 0 → Decides k b
-  thirty-second : b ≢ 0x3D → k ≡ 31 → Decides k b
-
--- the first of these bytes that decides it has the index i; no 0x00 ends the pairs at once
-pub record DecidedAt (bs : List ℕ) (i : ℕ) : Type 0 where
-  pub begun : List ℕ
-  pub decider : ℕ
-  pub rest : List ℕ
-  pub bytes : bs ≡ begun ++ decider ∷ rest
-  pub allowed : Every NameByte begun
-  pub index : length begun ≡ i
-  pub most : i ≤ 31
-  pub why : Decides i decider
-  pub no-end : begun ≡ [] → decider ≢ 0x00
-
 -- ---- from the relation of a caller's name
-
-every-before : (l : List ℕ) (i : ℕ) → ((k : ℕ) → k < i → NameByte (getD l k 0)) → i ≤ length l → Every NameByte (take i l)
-every-before l zero f h = tt
-every-before [] (suc i) f h = absurd (omega arith)
-every-before (b ∷ bs) (suc i) f h = (f 0 (omega arith), every-before bs i (λ k q. f (suc k) (omega arith)) (omega arith))
-
-every-at : (P : ℕ → Type 0) (l : List ℕ) (k : ℕ) → k < length l → Every P l → P (getD l k 0)
-every-at P [] k h a = absurd (omega arith)
-every-at P (b ∷ bs) zero h a = a .0
-every-at P (b ∷ bs) (suc k) h a = every-at P bs k (omega arith) (a .1)
 
 -- a list at one of its bytes
 cut-at : (l : List ℕ) (i : ℕ) → i < length l → l ≡ take i l ++ getD l i 0 ∷ drop (i + 1) l
@@ -73,7 +48,7 @@ first-at c bs name t {i} z e a h l before q =
       decider = getD name i 0;
       rest = drop (i + 1) name ++ t;
       bytes = whole;
-      allowed = every-before name i before (omega arith);
+      allowed = every-before NameByte name i (omega arith) before;
       index = omega (arith, length-take i name);
       most = l;
       why = why-decides i (getD name i 0) (every-at (λ b. b ≢ 0x3D) name i h a) q;
@@ -127,6 +102,10 @@ first-after begun b t a h w =
     byte (omega (arith, length-append begun (b ∷ t))) h
     (λ k i. rw (List·getD-append begun (b ∷ t) 0 k i) (every-at NameByte begun k i a)) (rw there w)
 
+begins : (begun : List ℕ) (b : ℕ) (rest : List ℕ) → Every NameByte begun → (begun ≡ [] → b ≢ 0x00) → Begun (begun ++ b ∷ rest)
+begins [] b rest a n = n refl
+begins (c ∷ begun) b rest a n = name-not-zero (a .0)
+
 -- row 8 at what is left of an area, by the byte that decides it
 module _ (past : ℕ) (es : List Entry) where
   eight-by : {name rest : List ℕ} {i : ℕ} → Begun rest → UpToEquals name rest → FirstWrong name i → FaultAt past es rest StoredName (sizes es + i)
@@ -146,10 +125,6 @@ module _ (past : ℕ) (es : List Entry) where
   decides-eight [] b rest y a h (equals-at-once z n) =
       eight-by y (rw z (by-equals {name = []} rest tt)) (empty refl refl)
   decides-eight (c ∷ begun) b rest y a h (equals-at-once z n) = absurd (omega arith)
-
-  begins : (begun : List ℕ) (b : ℕ) (rest : List ℕ) → Every NameByte begun → (begun ≡ [] → b ≢ 0x00) → Begun (begun ++ b ∷ rest)
-  begins [] b rest a n = n refl
-  begins (c ∷ begun) b rest a n = λ e. omega (arith, a .0 .least)
 
   decided-eight : {rest : List ℕ} {i : ℕ} → DecidedAt rest i → FaultAt past es rest StoredName (sizes es + i)
   decided-eight d =

@@ -65,6 +65,24 @@ pub data FaultAt (past : ℕ) (es : List Entry) : List ℕ → AreaFault → ℕ
   ten : {name stored value : List ℕ} (rest : List ℕ) → NameRule name → Spells stored value → In name es
       → FaultAt past es (name ++ 0x3D ∷ (stored ++ 0x00 ∷ rest)) Repeated (sizes es)
 
+-- code 8 in document 01's words: a byte of a stored name that decides it, after k bytes that are allowed
+pub data Decides (k b : ℕ) : Type 0 where
+  not-allowed : b ≢ 0x3D → ¬ (NameByte b) → Decides k b
+  equals-at-once : b ≡ 0x3D → k ≡ 0 → Decides k b
+  thirty-second : b ≢ 0x3D → k ≡ 31 → Decides k b
+
+-- the first of these bytes that decides it has the index i; no 0x00 ends the pairs at once
+pub record DecidedAt (bs : List ℕ) (i : ℕ) : Type 0 where
+  pub begun : List ℕ
+  pub decider : ℕ
+  pub rest : List ℕ
+  pub bytes : bs ≡ begun ++ decider ∷ rest
+  pub allowed : Every NameByte begun
+  pub index : length begun ≡ i
+  pub most : i ≤ 31
+  pub why : Decides i decider
+  pub no-end : begun ≡ [] → decider ≢ 0x00
+
 -- an area with a fault: good pairs, no name twice, and then what decides it
 pub record Faulty (area : List ℕ) (f : AreaFault) (at : ℕ) : Type 0 where
   pub before : List Entry

@@ -180,8 +180,8 @@ pairs-offset (named name (readInto buffer)) ps area = read-cases NoOffset ps are
 pairs-offset normalize ps area = rw (normalize-done ps area) refl
 pairs-offset count ps area = rw (count-done ps area) refl
 
-pub reply-inside : (call : Call) (area : List ℕ) → replyOffset (callArea call area .reply) ≤ length area + 31
-reply-inside call area =
+pub reply-bounded : (call : Call) (area : List ℕ) → replyOffset (callArea call area .reply) ≤ length area + 31
+reply-bounded call area =
     split-check (callCheck call)
     (λ n. split-parse (parse area)
     (λ ps h. rw (call-parsed call area n ps h) (omega (arith, pairs-offset call ps area)))

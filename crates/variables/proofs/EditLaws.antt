@@ -8,7 +8,7 @@ use native.Mathlib.Omega.{arith}
 use lib.ListN.{length, replicate, length-append, length-replicate}
 use Rattle.lists.specs.Bytes.{Every, AllBytes, sameBytes, stands}
 use Rattle.lists.proofs.Tests.{split, clash}
-use Rattle.lists.proofs.ListLaws.{every-append, every-replicate}
+use Rattle.lists.proofs.ListLaws.{every-append, every-replicate, every-map}
 use Rattle.lists.proofs.ByteLaws.{same-refl, same-true, same-false}
 use Rattle.names.specs.Rules.{NameByte, NameRule}
 use Rattle.values.specs.Value.{decode}
@@ -201,8 +201,7 @@ remove-room name (p ∷ ps) =
 -- ---- bytes stay bytes
 
 name-bytes : (name : List ℕ) → Every NameByte name → AllBytes name
-name-bytes [] h = tt
-name-bytes (b ∷ name) h = (omega (arith, h .0 .most), name-bytes name (h .1))
+name-bytes name h = every-map NameByte (λ b. b < 256) (λ b n. omega (arith, n .most)) name h
 
 bytes-more : (p : Pair) (ps : List Pair) → NameRule (p .name) → AllBytes (p .stored) → AllBytes (pairsBytes ps) → AllBytes (pairsBytes (p ∷ ps))
 unfolding pairsBytes pairBytes
