@@ -7,6 +7,7 @@
 
 static uint8_t image[NVRAM_IMAGE_MAX + NVRAM_BLOCK];
 static uint8_t text[NVRAM_LISTING_MAX];
+static const uint8_t value[] = {'1'};
 static size_t offset, number, blocks;
 static int failures;
 
@@ -76,9 +77,9 @@ static void variables(void)
     const size_t length = common_blocks();
     uint8_t name[NVRAM_VARIABLE_NAME_MAX + 1];
     memset(name, 'n', sizeof name);
-    want("NVRAM_VARIABLE_NAME_MAX", nvram_set(image, length, name, NVRAM_VARIABLE_NAME_MAX, name, 1, &offset),
+    want("NVRAM_VARIABLE_NAME_MAX", nvram_set(image, length, name, NVRAM_VARIABLE_NAME_MAX, value, 1, &offset),
          NVRAM_DONE);
-    want("NVRAM_VARIABLE_NAME_MAX + 1", nvram_set(image, length, name, NVRAM_VARIABLE_NAME_MAX + 1, name, 1, &offset),
+    want("NVRAM_VARIABLE_NAME_MAX + 1", nvram_set(image, length, name, NVRAM_VARIABLE_NAME_MAX + 1, value, 1, &offset),
          NVRAM_BAD_NAME);
 }
 
@@ -93,7 +94,7 @@ static void refused_at(const char *label, const uint8_t *name, size_t name_len, 
         want(label, (uint32_t)offset, (uint32_t)index);
         want(label, (uint32_t)number, 0);
         offset = NVRAM_IMAGE_MAX;
-        want(label, nvram_set(image, lengths[i], name, name_len, name, 1, &offset), NVRAM_BAD_NAME);
+        want(label, nvram_set(image, lengths[i], name, name_len, value, 1, &offset), NVRAM_BAD_NAME);
         want(label, (uint32_t)offset, (uint32_t)index);
         offset = NVRAM_IMAGE_MAX;
         want(label, nvram_remove(image, lengths[i], name, name_len, &offset), NVRAM_BAD_NAME);

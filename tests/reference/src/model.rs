@@ -167,7 +167,7 @@ impl Model {
 }
 
 /// Where a name breaks the name rule, written out again from the allowed bytes so that it is apart from the parser's.
-fn wrong_index(name: &[u8]) -> Option<usize> {
+pub fn wrong_index(name: &[u8]) -> Option<usize> {
     const ALLOWED: &[u8; 61] = b"!\"#$%&'()*+,-.0123456789;<>?^_`abcdefghijklmnopqrstuvwxyz{|}~";
     let good = name.iter().take_while(|byte| ALLOWED.contains(byte));
     match good.count() {

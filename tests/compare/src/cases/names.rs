@@ -5,26 +5,17 @@ use crate::build::{self, Part};
 use crate::context::{Context, Outcome};
 use crate::request::Request;
 use crate::twin::Twin;
-use reference::model::{Call, Model};
+use reference::model::{wrong_index, Call, Model};
 
-/// The bytes that may stand in a name.
-const ALLOWED: &[u8; 61] = b"!\"#$%&'()*+,-.0123456789;<>?^_`abcdefghijklmnopqrstuvwxyz{|}~";
-
-/// Where a wrong name is refused: at 0 if it is empty, else at the least index that is 31 or whose byte is not allowed.
-fn wrong_index(name: &[u8]) -> Option<usize> {
-    match name.len() {
-        0 => Some(0),
-        length => (0..length).find(|&index| index == 31 || !ALLOWED.contains(&name[index])),
-    }
+/// A name of a length with one byte in place of its `n`.
+fn with_byte(length: usize, at: usize, byte: u8) -> Vec<u8> {
+    let mut name = vec![b'n'; length];
+    name[at] = byte;
+    name
 }
 
 /// Names with the indices that they are refused at, as the rule gives them by hand.
 fn known_names() -> Vec<(Vec<u8>, usize)> {
-    let with = |length: usize, at: usize, byte: u8| {
-        let mut name = vec![b'n'; length];
-        name[at] = byte;
-        name
-    };
     let short: [(&[u8], usize); 12] = [
         (b"", 0),
         (b"A", 0),
@@ -43,12 +34,13 @@ fn known_names() -> Vec<(Vec<u8>, usize)> {
         (vec![b'n'; 32], 31),
         (vec![b'n'; 33], 31),
         (vec![b'n'; 1_000_000], 31),
-        (with(31, 30, b'='), 30),
-        (with(32, 31, b'='), 31),
-        (with(33, 32, b'='), 31),
-        (with(1_000_000, 0, b'='), 0),
-        (with(1_000_000, 30, b'='), 30),
-        (with(1_000_000, 999_999, b'='), 31),
+        (with_byte(31, 30, b'='), 30),
+        (with_byte(32, 31, b'='), 31),
+        (with_byte(33, 32, b'='), 31),
+        (with_byte(1_000_000, 0, b'='), 0),
+        (with_byte(1_000_000, 30, b'='), 30),
+        (with_byte(1_000_000, 500_000, b'='), 31),
+        (with_byte(1_000_000, 999_999, b'='), 31),
     ];
     let short = short.map(|(name, index)| (name.to_vec(), index));
     short.into_iter().chain(long).collect()
@@ -60,22 +52,14 @@ fn lengths() -> impl Iterator<Item = Vec<u8>> {
     (0..=40).chain(long).map(|length| vec![b'n'; length])
 }
 
-/// Each byte at the first, the middle and the last index of names of several lengths.
-fn each_byte(ctx: &Context) -> Vec<Vec<u8>> {
+/// Each byte at the first, the middle and the last index of a name of a length.
+fn each_byte(ctx: &Context, length: usize) -> impl Iterator<Item = Vec<u8>> {
     let step = if ctx.quick { 11 } else { 1 };
-    let mut list = Vec::new();
-    for length in [1, 2, 3, 5, 16, 31, 32, 33] {
-        let mut indices = vec![0, length / 2, length - 1];
-        indices.dedup();
-        for at in indices {
-            for byte in (0..=255).step_by(step) {
-                let mut name = vec![b'n'; length];
-                name[at] = byte;
-                list.push(name);
-            }
-        }
-    }
-    list
+    let mut indices = vec![0, length / 2, length - 1];
+    indices.dedup();
+    let bytes = move |at| (0..=255).step_by(step).map(move |byte| (at, byte));
+    let places = indices.into_iter().flat_map(bytes);
+    places.map(move |(at, byte)| with_byte(length, at, byte))
 }
 
 /// Names up to 34 bytes with a wrong byte at each index and others after it.
@@ -99,7 +83,9 @@ fn several_bytes(ctx: &mut Context) -> Vec<Vec<u8>> {
 fn all_names(ctx: &mut Context) -> Vec<Vec<u8>> {
     let known = known_names().into_iter().map(|(name, _)| name);
     let mut list: Vec<Vec<u8>> = known.chain(lengths()).collect();
-    list.extend(each_byte(ctx));
+    for length in [1, 2, 3, 5, 16, 31, 32, 33] {
+        list.extend(each_byte(ctx, length));
+    }
     list.extend(several_bytes(ctx));
     list
 }
@@ -163,6 +149,12 @@ pub fn name_indices(ctx: &mut Context) -> Outcome {
             calls_by_name(ctx, &mut twin, &image, name)?;
         }
     }
+    let image = build::base();
+    let mut twin = Twin::new(&image);
+    for name in each_byte(ctx, 1_000_000) {
+        ctx.recipe = "a small image and a name of 1,000,000 bytes".to_string();
+        calls_by_name(ctx, &mut twin, &image, &name)?;
+    }
     Ok(())
 }
 
@@ -208,27 +200,28 @@ pub fn stored_indices(ctx: &mut Context) -> Outcome {
 
 /// Counts the variables of an area whose pair at an offset may have a wrong name.
 fn stored_name(ctx: &mut Context, twin: &mut Twin, area: Vec<u8>, at: usize) -> Outcome {
-    let start = 32;
-    let wanted = stored_fault(&area[at..]).map(|(code, offset)| (code, start + at + offset));
-    let ends = area.get(at) == Some(&0);
+    let wanted = stored_answer(&area, at);
     twin.load(&build::image(&[Part::free(1), Part::common(area)]));
     let reply = twin.call(ctx, &Request::Count)?;
-    let found = (reply.code, reply.offset);
     match wanted {
-        _ if ends => ctx.same("the end of the pairs", found, (0, 0)),
-        Some(wanted) => ctx.same("the fault of a stored name", found, wanted),
+        Some(wanted) => ctx.same("the answer by the name", (reply.code, reply.offset), wanted),
         None => Ok(()),
     }
 }
 
-/// The fault of the name at the start of what is left of an area: 8 at its first wrong byte, or 7 where no `=` ends it.
-fn stored_fault(left: &[u8]) -> Option<(u32, usize)> {
+/// The code and offset of a count by the name that is stored at an offset of the area, or nothing where its value decides.
+fn stored_answer(area: &[u8], at: usize) -> Option<(u32, usize)> {
+    const START: usize = 32;
+    let left = &area[at..];
     let equals = left.iter().position(|&byte| byte == b'=');
     let name = &left[..equals.unwrap_or(left.len())];
     match (wrong_index(name), equals) {
-        _ if left.is_empty() => Some((7, 0)),
-        (Some(index), _) => Some((8, index)),
-        (None, None) => Some((7, left.len())),
-        (None, Some(_)) => None,
+        _ if left.is_empty() => Some((7, START + at)),
+        _ if left[0] == 0 => Some((0, 0)),
+        (Some(index), _) => Some((8, START + at + index)),
+        (None, None) => Some((7, START + area.len())),
+        (None, Some(equals)) if !left[equals..].starts_with(b"=v\0\0") => None,
+        _ if name == b"c" => Some((10, START + at)),
+        _ => Some((0, 0)),
     }
 }
