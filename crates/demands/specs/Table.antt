@@ -61,7 +61,7 @@ pub record Holding (value buffer buffer′ : List ℕ) : Type 0 where
 
 -- all that is seen of a request on the image I, row by row
 pub data Answers (I : List ℕ) : Request → Seen → Type 0 where
-  -- caller's variable name breaks the name rule; the offset is the index at which it does
+  -- caller's variable name breaks the name rule; the offset is the index at which it does so first
   eleven : {r : Request} {name : List ℕ} {i : ℕ} → Takes r name → FirstWrong name i → Answers I r (refuses r I 11 i)
   -- image length outside the rule
   one : {r : Request} → WellNamed r → ¬ (LengthRule (length I)) → Answers I r (refuses r I 1 0)

@@ -1,20 +1,23 @@
--- Laws of `allowedAhead`: what stands at the first byte that a name may not hold, and before it; the turns of the loop that looks for it; and the check of a name by it.
+-- Laws of `allowedAhead`: the bytes before the first that a name may not hold, and that byte; the loop that looks for it; the check by it.
 use Prim.Native.Nat.{ℕ, zero, suc, _+_, _-_, _<_, _≤_}
-use mathlib.Core.Path.{_≡_, refl, sym, ap, subst, _∙_}
+use mathlib.Core.Path.{_≡_, refl, sym, ap, _∙_}
 use mathlib.Core.Bool.{Bool, true, false}
 use mathlib.Core.List.{List, [], _∷_}
-use mathlib.Core.Logic.{_≢_}
+use mathlib.Core.Logic.{_≢_, inl, inr}
 use native.Mathlib.Omega.{arith}
 use lib.Dec.{leb, ltb, eqb}
 use lib.ListN.{length, getD, drop, drop-of-length-le}
+use lib.Seq.{take-all}
 use borrow.Author.Tests.{eq-eqb, ne-eqb, eqb-true, eqb-false, lt-ltb, le-ltb, ltb-true, ltb-false, leb-true, leb-false}
 use Rattle.lists.proofs.Tests.{split, clash}
 use Rattle.lists.proofs.ListLaws.{drop-next}
+use Rattle.lists.proofs.ByteLaws.{every-before}
 use Rattle.names.specs.declared.NameCheck.the-variants.{Good, Wrong}
 use Rattle.names.specs.Name.{nameByte, nameCheck}
+use Rattle.names.specs.Rules.{NameByte, empty, byte}
 use Rattle.names.specs.Helpers.{allowedAhead, checkByAllowed}
 use Rattle.names.proofs.Marks.{marks, marked}
-use Rattle.names.proofs.NameLaws.{Checked, checked-none, checked-next, checked-long, checked-refused, checked-empty, checked-all}
+use Rattle.names.proofs.NameLaws.{name-byte-exactly, check-good-exactly, check-wrong-exactly}
 
 pub ahead-none : allowedAhead [] ≡ 0
 unfolding allowedAhead
@@ -78,27 +81,33 @@ module _ {s : List ℕ} {from : ℕ} {table : List ℕ} {i : ℕ} (k : Seeking s
   pub seek-last : length s ≤ i → i ≡ from + allowedAhead (drop from s)
   seek-last h = omega (arith, k .left, ap allowedAhead (drop-of-length-le s h) ∙ ahead-none)
 
--- ---- the check of a whole name
+-- ---- the check of a name, by the relations
 
-checked-skip : (name : List ℕ) (n : ℕ) → n ≤ allowedAhead name → n ≤ 31 → Checked name n
-checked-skip name zero h l = checked-none name
-checked-skip name (suc n) h l =
-    let e : n + 1 ≡ suc n = omega arith in
-    subst (Checked name) e
-    (checked-next (checked-skip name n (omega arith) (omega arith)) (omega (arith, ahead-short name)) (omega arith) (ahead-before name n (omega arith)))
+none : (l : List ℕ) → length l ≤ 0 → l ≡ []
+none [] h = refl
+none (b ∷ bs) h = absurd (omega arith)
 
 module _ (name : List ℕ) (n : ℕ) (e : n ≡ allowedAhead name) where
+  before : (k : ℕ) → k < n → NameByte (getD name k 0)
+  before k h = name-byte-exactly (getD name k 0) .0 (ahead-before name k (omega arith))
+
+  there : n < length name → ¬ (NameByte (getD name n 0))
+  there l r = clash (cc (name-byte-exactly (getD name n 0) .1 r, ap (λ (m : ℕ). nameByte (getD name m 0)) e, ahead-there name (omega arith)))
+
   check-31 : 31 < n → Wrong 31 ≡ nameCheck name
-  check-31 h = checked-long (checked-skip name 31 (omega arith) (omega arith)) (omega (arith, ahead-short name)) refl
+  check-31 h = sym (check-wrong-exactly name 31 .1 (byte (omega (arith, ahead-short name)) (omega arith) (λ k l. before k (omega arith)) (inr refl)))
 
   check-there : n ≤ 31 → n < length name → Wrong n ≡ nameCheck name
-  check-there h l = checked-refused (checked-skip name n (omega arith) h) l (ap (λ (m : ℕ). nameByte (getD name m 0)) e ∙ ahead-there name (omega arith))
+  check-there h l = sym (check-wrong-exactly name n .1 (byte l h before (inl (there l))))
 
-  check-empty : n ≤ 31 → length name ≤ n → n ≡ 0 → Wrong 0 ≡ nameCheck name
-  check-empty h l z = checked-empty (checked-skip name n (omega arith) h) l z
+  check-empty : length name ≤ n → n ≡ 0 → Wrong 0 ≡ nameCheck name
+  check-empty l z = sym (check-wrong-exactly name 0 .1 (empty (none name (omega arith)) refl))
 
   check-kept : n ≤ 31 → length name ≤ n → n ≢ 0 → Good ≡ nameCheck name
-  check-kept h l z = checked-all (checked-skip name n (omega arith) h) l z
+  check-kept h l z =
+      let all = every-before NameByte name (length name) (omega arith) (λ k q. before k (omega arith)) in
+      sym (check-good-exactly name .1
+      (record { least = omega (arith, ahead-short name); most = omega arith; each = rw (take-all (length name) name (omega arith)) at all }))
 
 -- ---- the check by the allowed bytes at a name's start
 
@@ -127,12 +136,12 @@ check-by-allowed name n whole e f g =
     split (ltb 31 n)
     (λ t. sym (allowed-long n whole (ltb-true 31 n t)) ∙ check-31 name n e (ltb-true 31 n t))
     (λ t. let h = ltb-false 31 n t in
-    split (eqb n 0) (λ u. sym (allowed-none n whole h (eqb-true n 0 u)) ∙ none h (eqb-true n 0 u)) (λ u. some h (eqb-false n 0 u)))
+    split (eqb n 0) (λ u. sym (allowed-none n whole h (eqb-true n 0 u)) ∙ nothing h (eqb-true n 0 u)) (λ u. some h (eqb-false n 0 u)))
   where
-    none : n ≤ 31 → n ≡ 0 → Wrong 0 ≡ nameCheck name
-    none h z =
+    nothing : n ≤ 31 → n ≡ 0 → Wrong 0 ≡ nameCheck name
+    nothing h z =
         split whole
-        (λ t. check-empty name n e h (f t) z)
+        (λ t. check-empty name n e (f t) z)
         (λ t. ap Wrong (sym z) ∙ check-there name n e h (g t))
 
     some : n ≤ 31 → n ≢ 0 → checkByAllowed n whole ≡ nameCheck name

@@ -1,11 +1,11 @@
--- The laws of a variable's name: the definitions that compute, against the rules; and the check byte by byte.
+-- The laws of a variable's name: the definitions that compute, against the rules.
 use Prim.Native.Nat.{ℕ, zero, suc, _+_, _≤_, _<_}
 use mathlib.Core.Path.{_≡_, refl, sym, ap, _∙_, subst}
 use mathlib.Core.Bool.{true, false, cond, _&&_}
 use mathlib.Core.List.{List, [], _∷_}
 use mathlib.Core.Logic.{_≢_, _⊎_, inl, inr, _↔_}
 use native.Mathlib.Omega.{arith}
-use lib.ListN.{length, getD, drop, drop-of-length-le}
+use lib.ListN.{length, getD}
 use lib.Dec.{leb, ltb, eqb}
 use borrow.Author.Tests.{eqb-true, eqb-false, ne-eqb, ltb-true, ltb-false, lt-ltb, le-ltb, leb-true, le-leb}
 use Rattle.lists.specs.Bytes.{Every}
@@ -14,7 +14,6 @@ use Rattle.names.specs.declared.NameCheck.{NameCheck}
 use Rattle.names.specs.declared.NameCheck.the-variants.{Good, Wrong}
 use Rattle.names.specs.Name.{within, nameByte, nameCheckFrom, nameCheck}
 use Rattle.names.specs.Rules.{NameByte, NameRule, FirstWrong, empty, byte}
-use Rattle.lists.proofs.ListLaws.{drop-next}
 
 not-so : {A : Type 0} → false ≡ true → A
 not-so e = clash (cc)
@@ -242,32 +241,3 @@ wrong-most (byte h l before q) = l
 pub wrong-inside : {name : List ℕ} {i : ℕ} → FirstWrong name i → i ≤ length name
 wrong-inside (empty e f) = omega arith
 wrong-inside (byte h l before q) = omega arith
-
--- ---- the check byte by byte: the bytes before i are checked
-
-pub record Checked (name : List ℕ) (i : ℕ) : Type 0 where
-  pub left : nameCheck name ≡ nameCheckFrom i (drop i name)
-
-pub checked-none : (name : List ℕ) → Checked name 0
-unfolding nameCheck
-checked-none name = record { left = refl }
-
-module _ {name : List ℕ} {i : ℕ} (s : Checked name i) where
-  pub checked-next : i < length name → i < 31 → nameByte (getD name i 0) ≡ true → Checked name (i + 1)
-  checked-next h l e =
-      record { left = s .left ∙ ap (nameCheckFrom i) (drop-next name i h) ∙ check-next i (getD name i 0) (drop (i + 1) name) l e }
-
-  pub checked-long : i < length name → i ≡ 31 → Wrong 31 ≡ nameCheck name
-  checked-long h l =
-      ap Wrong (sym l)
-      ∙ sym (s .left ∙ ap (nameCheckFrom i) (drop-next name i h) ∙ check-long i (getD name i 0) (drop (i + 1) name) (omega arith))
-
-  pub checked-refused : i < length name → nameByte (getD name i 0) ≡ false → Wrong i ≡ nameCheck name
-  checked-refused h e = sym (s .left ∙ ap (nameCheckFrom i) (drop-next name i h) ∙ check-refused i (getD name i 0) (drop (i + 1) name) e)
-
-  pub checked-empty : length name ≤ i → i ≡ 0 → Wrong 0 ≡ nameCheck name
-  unfolding nameCheckFrom
-  checked-empty h e = sym (s .left ∙ ap (nameCheckFrom i) (drop-of-length-le name h) ∙ rw e)
-
-  pub checked-all : length name ≤ i → i ≢ 0 → Good ≡ nameCheck name
-  checked-all h n = sym (s .left ∙ ap (nameCheckFrom i) (drop-of-length-le name h) ∙ check-none i n)

@@ -17,4 +17,4 @@ areaSpan (Refused e) = Span.Refused e
 
 -- 11 goes before another error
 abbrev pub nameFirst : NameCheck → Error → Error
-nameFirst check e = onCheck check e (λ at. BadName at)
+nameFirst check e = onCheck check e BadName

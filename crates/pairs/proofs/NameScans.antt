@@ -1,16 +1,17 @@
 -- One byte more in front of a scan; the stored name as the bytes up to its `=`; and what its scan finds, by the check of these bytes.
-use Prim.Native.Nat.{ℕ, _≤_}
-use mathlib.Core.Path.{_≡_, refl, ap, _∙_}
-use mathlib.Core.List.{List, [], _∷_, _++_}
-use mathlib.Core.Logic.{_≢_, _↔_}
+use Prim.Native.Nat.{ℕ, _+_, _≤_, _<_}
+use mathlib.Core.Path.{_≡_, refl, sym, ap, _∙_}
+use mathlib.Core.List.{List, [], _∷_, _++_, append-nil}
+use mathlib.Core.Logic.{_≢_, _⊎_, inl, inr, _↔_}
 use native.Mathlib.Omega.{arith}
-use lib.ListN.{length, drop, length-append, drop-of-length-le}
+use lib.ListN.{length, getD, drop, length-append, drop-of-length-le, List·getD-append}
 use lib.Dec.{eqb}
-use lib.Seq.{drop-at}
+use lib.Seq.{drop-at, getD-append-add}
 use borrow.Author.Tests.{eqb-true, eqb-false, ne-eqb}
 use Rattle.lists.specs.Bytes.{Every}
 use Rattle.lists.proofs.Tests.{split, clash}
 use Rattle.lists.proofs.ListLaws.{every-map}
+use Rattle.lists.proofs.ByteLaws.{every-at}
 use Rattle.names.specs.declared.NameCheck.the-variants.{Good, Wrong}
 use Rattle.names.specs.Name.{nameCheck}
 use Rattle.names.specs.Rules.{NameByte, NameRule, FirstWrong}
@@ -63,25 +64,45 @@ stored-up (b ∷ bs) =
     (λ t. rw (eqb-true b 0x3D t, stored-equals) (by-equals {name = []} bs tt))
     (λ t. let h = eqb-false b 0x3D t in rw (stored-next b bs h) (up-next b h (stored-up bs)))
 
-stored-ended : (name rest : List ℕ) → Every (λ b. b ≢ 0x3D) name → storedName (name ++ 0x3D ∷ rest) ≡ name
-stored-ended [] rest a = stored-equals rest
-stored-ended (b ∷ name) rest a = stored-next b (name ++ 0x3D ∷ rest) (a .0) ∙ ap (λ (l : List ℕ). b ∷ l) (stored-ended name rest (a .1))
-
-stored-unended : (name : List ℕ) → Every (λ b. b ≢ 0x3D) name → storedName name ≡ name
-stored-unended [] a = stored-none
-stored-unended (b ∷ name) a = stored-next b name (a .0) ∙ ap (λ (l : List ℕ). b ∷ l) (stored-unended name (a .1))
+stored-append : (name t : List ℕ) → Every (λ b. b ≢ 0x3D) name → storedName (name ++ t) ≡ name ++ storedName t
+stored-append [] t a = refl
+stored-append (b ∷ name) t a = stored-next b (name ++ t) (a .0) ∙ ap (λ (l : List ℕ). b ∷ l) (stored-append name t (a .1))
 
 up-stored : {name bs : List ℕ} → UpToEquals name bs → storedName bs ≡ name
-up-stored (by-equals {name = name} rest a) = stored-ended name rest a
-up-stored (by-end {name = name} a) = stored-unended name a
+up-stored (by-equals {name = name} rest a) =
+    stored-append name (0x3D ∷ rest) a ∙ ap (λ (l : List ℕ). name ++ l) (stored-equals rest) ∙ append-nil name
+up-stored (by-end {name = name} a) =
+    ap storedName (sym (append-nil name)) ∙ stored-append name [] a ∙ ap (λ (l : List ℕ). name ++ l) stored-none ∙ append-nil name
 
 -- THE STORED NAME is the bytes up to the first `=`, or all
 pub stored-exactly : (bs name : List ℕ) → (storedName bs ≡ name) ↔ UpToEquals name bs
 stored-exactly bs name = (λ e. rw (← e) (stored-up bs), up-stored)
 
+-- it is the start of these bytes
+pub up-start : {name bs : List ℕ} → UpToEquals name bs → (t : List ℕ) × (bs ≡ name ++ t)
+up-start (by-equals rest a) = (0x3D ∷ rest, refl)
+up-start (by-end {name = name} a) = ([], sym (append-nil name))
+
 pub up-short : {name bs : List ℕ} → UpToEquals name bs → length name ≤ length bs
-up-short (by-equals {name = name} rest a) = omega (arith, length-append name (0x3D ∷ rest))
-up-short (by-end a) = omega arith
+up-short {name} u = let s = up-start u in omega (arith, ap length (s .1), length-append name (s .0))
+
+-- it holds no `=`
+pub up-clean : {name bs : List ℕ} → UpToEquals name bs → Every (λ b. b ≢ 0x3D) name
+up-clean (by-equals rest a) = a
+up-clean (by-end a) = a
+
+pub up-inside : {name bs : List ℕ} {k : ℕ} → UpToEquals name bs → k < length name → getD bs k 0 ≢ 0x3D
+up-inside {name} {bs} {k} u h =
+    let s = up-start u in
+    let e : getD bs k 0 ≡ getD name k 0 = ap (λ (l : List ℕ). getD l k 0) (s .1) ∙ List·getD-append name (s .0) 0 k h in
+    λ q. every-at (λ b. b ≢ 0x3D) name k h (up-clean u) (sym e ∙ q)
+
+-- and is followed by one, or by nothing
+pub up-after : {name bs : List ℕ} → UpToEquals name bs → (getD bs (length name) 0 ≡ 0x3D) ⊎ (length bs ≡ length name)
+up-after (by-equals {name = name} rest a) =
+    let z : length name ≡ length name + 0 = omega arith in
+    inl (ap (λ (k : ℕ). getD (name ++ 0x3D ∷ rest) k 0) z ∙ getD-append-add name (0x3D ∷ rest) 0 0)
+up-after (by-end a) = inr refl
 
 -- allowed bytes hold no `=`
 no-equals : (name : List ℕ) → Every NameByte name → Every (λ b. b ≢ 0x3D) name
@@ -97,21 +118,20 @@ pub scan-wrong : (bs : List ℕ) (i : ℕ) → nameCheck (storedName bs) ≡ Wro
 unfolding scanName
 scan-wrong bs i c = rw c
 
+good-scan : {name bs : List ℕ} → UpToEquals name bs → NameRule name → scanName bs ≡ pastName name (drop (length name) bs)
+good-scan {name} {bs} u r =
+    let e = up-stored u in
+    scan-good bs (ap nameCheck e ∙ check-good-exactly name .1 r) ∙ ap (λ (l : List ℕ). pastName l (drop (length l) bs)) e
+
 -- A GOOD NAME IS FOUND WHOLE
 pub scan-name : {name : List ℕ} (rest : List ℕ) → NameRule name → scanName (name ++ 0x3D ∷ rest) ≡ ends name rest
 scan-name {name} rest r =
-    let e = stored-ended name rest (no-equals name (r .each)) in
-    scan-good (name ++ 0x3D ∷ rest) (ap nameCheck e ∙ check-good-exactly name .1 r)
-    ∙ ap (λ (l : List ℕ). pastName l (drop (length l) (name ++ 0x3D ∷ rest))) e
-    ∙ ap (pastName name) (drop-at name (0x3D ∷ rest) (length name) refl)
+    good-scan (by-equals rest (no-equals name (r .each))) r ∙ ap (pastName name) (drop-at name (0x3D ∷ rest) (length name) refl)
 
 -- A GOOD NAME WITHOUT `=` is cut off
 pub cut-scan : {name : List ℕ} → NameRule name → scanName name ≡ short
 cut-scan {name} r =
-    let e = stored-unended name (no-equals name (r .each)) in
-    scan-good name (ap nameCheck e ∙ check-good-exactly name .1 r)
-    ∙ ap (λ (l : List ℕ). pastName l (drop (length l) name)) e
-    ∙ ap (pastName name) (drop-of-length-le name {i = length name} (omega arith))
+    good-scan (by-end (no-equals name (r .each))) r ∙ ap (pastName name) (drop-of-length-le name {i = length name} (omega arith))
 
 -- A WRONG NAME is wrong where a caller's is
 pub wrong-scan : {name bs : List ℕ} {i : ℕ} → UpToEquals name bs → FirstWrong name i → scanName bs ≡ bad i

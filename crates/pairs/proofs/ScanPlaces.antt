@@ -3,7 +3,7 @@ use Prim.Native.Nat.{ℕ, zero, suc, _+_, _-_, _%_, _<_, _≤_}
 use mathlib.Core.Path.{_≡_, refl, sym, ap, subst, _∙_}
 use mathlib.Core.Bool.{Bool, true, false, _||_}
 use mathlib.Core.List.{List, [], _∷_}
-use mathlib.Core.Logic.{_≢_, ⊎-elim}
+use mathlib.Core.Logic.{⊎-elim}
 use native.Mathlib.Nat.{sub-self}
 use native.Mathlib.Omega.{arith}
 use lib.Dec.{leb, eqb}
@@ -22,8 +22,9 @@ use Rattle.lists.specs.Helpers.{untilEither}
 use Rattle.lists.proofs.FindLaws.{until-short, either-ahead, either-there, either-before}
 use Rattle.pairs.specs.declared.ScanEnd.the-variants.{At, Wrong, Cut}
 use Rattle.pairs.specs.Scan.{Scan, ends, bad, short, and, storedName, pastName, scanName, scanValue}
+use Rattle.pairs.specs.Rules.{UpToEquals}
 use Rattle.pairs.specs.Helpers.{endsAt, endOf}
-use Rattle.pairs.proofs.NameScans.{stored-none, stored-equals, stored-next, stored-exactly, up-short, scan-good, scan-wrong}
+use Rattle.pairs.proofs.NameScans.{stored-none, stored-equals, stored-next, stored-exactly, up-short, up-inside, up-after, scan-good, scan-wrong}
 
 -- one byte more in front
 end-and : (from at b : ℕ) (s : Scan) → endOf from at (and b s) ≡ endOf from (at + 1) s
@@ -50,35 +51,14 @@ stored-ahead (b ∷ bs) =
     (λ u. ahead-next b (storedName bs) u ∙ ap suc (stored-ahead bs) ∙ sym (ahead-next b bs u))
     (λ u. ahead-here b (storedName bs) u ∙ sym (ahead-here b bs u)))
 
-stored-short : (l : List ℕ) → length (storedName l) ≤ length l
-stored-short l = up-short (stored-exactly l (storedName l) .0 refl)
-
--- and no other where `=` follows them
-stored-here : (l : List ℕ) → getD l (allowedAhead l) 0 ≡ 0x3D → length (storedName l) ≤ allowedAhead l
-stored-here [] e = omega (arith, ap length stored-none)
-stored-here (b ∷ bs) e =
-    split (eqb b 0x3D)
-    (λ t. omega (arith, ap (λ (x : ℕ). length (storedName (x ∷ bs))) (eqb-true b 0x3D t), ap length (stored-equals bs)))
-    (λ t. let h = eqb-false b 0x3D t in
-    split (nameByte b)
-    (λ u. omega (arith, ap length (stored-next b bs h), ahead-next b bs u, stored-here bs (rw (ahead-next b bs u) at e)))
-    (λ u. absurd (h (rw (ahead-here b bs u) at e))))
-
--- but one more where another byte does
-stored-on : (l : List ℕ) → allowedAhead l < length l → getD l (allowedAhead l) 0 ≢ 0x3D → allowedAhead l < length (storedName l)
-stored-on [] h n = absurd (omega arith)
-stored-on (b ∷ bs) h n =
-    split (eqb b 0x3D)
-    (λ t. let z = eqb-true b 0x3D t in absurd ((rw (ahead-here b bs (equals-refused b z)) at n) z))
-    (λ t. let q = ap length (stored-next b bs (eqb-false b 0x3D t)) in
-    split (nameByte b)
-    (λ u. omega (arith, q, ahead-next b bs u, stored-on bs (omega (arith, ahead-next b bs u)) (rw (ahead-next b bs u) at n)))
-    (λ u. omega (arith, q, ahead-here b bs u)))
-
 -- where a stored name ends
 pub ends-past : (area : List ℕ) (at : ℕ) → length area ≤ at → true ≡ endsAt area at
 unfolding endsAt
 ends-past area at h = rw (le-leb (length area) at h)
+
+ends-equals : (area : List ℕ) (at : ℕ) → getD area at 0 ≡ 0x3D → true ≡ endsAt area at
+unfolding endsAt
+ends-equals area at e = split (leb (length area) at) (λ t. rw t) (λ t. rw (t, eq-eqb (getD area at 0) 0x3D e))
 
 pub ends-byte : (area : List ℕ) (at : ℕ) → at < length area → eqb (getD area at 0) 0x3D ≡ endsAt area at
 unfolding endsAt
@@ -92,20 +72,33 @@ module _ (area : List ℕ) (from r : ℕ) (e : r ≡ from + allowedAhead (drop f
   there : getD left (allowedAhead left) 0 ≡ getD area r 0
   there = getD-drop from area (allowedAhead left) 0 ∙ ap (λ (k : ℕ). getD area k 0) (sym e)
 
+  up : UpToEquals (storedName left) left
+  up = stored-exactly left (storedName left) .0 refl
+
+  -- the name has the allowed bytes at least
+  least : r - from ≤ length (storedName left)
+  least = omega (arith, stored-ahead left, ahead-short (storedName left))
+
   ends-whole : endsAt area r ≡ true → length (storedName left) ≤ r - from
   unfolding endsAt
   ends-whole t =
-      split (leb (length area) r)
-      (λ u. omega (arith, leb-true (length area) r u, stored-short left, length-drop from area))
-      (λ u. let z : getD area r 0 ≡ 0x3D = eqb-true (getD area r 0) 0x3D (rw u at t) in omega (arith, stored-here left (there ∙ z)))
+      split (leb (length (storedName left)) (allowedAhead left))
+      (λ v. omega (arith, leb-true (length (storedName left)) (allowedAhead left) v))
+      (λ v.
+      let h : allowedAhead left < length (storedName left) = leb-false (length (storedName left)) (allowedAhead left) v in
+      let l : leb (length area) r ≡ false = lt-leb (length area) r (omega (arith, up-short up, length-drop from area)) in
+      absurd (up-inside up h (there ∙ eqb-true (getD area r 0) 0x3D (rw l at t))))
 
   ends-not : endsAt area r ≡ false → r - from < length (storedName left)
-  unfolding endsAt
   ends-not t =
-      split (leb (length area) r)
-      (λ u. clash (cc))
-      (λ u. let n = eqb-false (getD area r 0) 0x3D (rw u at t) in
-      omega (arith, stored-on left (omega (arith, leb-false (length area) r u, length-drop from area)) (λ q. n (sym there ∙ q))))
+      split (leb (length (storedName left)) (allowedAhead left))
+      (λ v.
+      let q : length (storedName left) ≡ allowedAhead left = omega (arith, least, leb-true (length (storedName left)) (allowedAhead left) v) in
+      ⊎-elim
+      (λ w. clash (cc (ends-equals area r (sym there ∙ ap (λ (k : ℕ). getD left k 0) (sym q) ∙ w))))
+      (λ w. clash (cc (ends-past area r (omega (arith, length-drop from area)))))
+      (up-after up))
+      (λ v. omega (arith, leb-false (length (storedName left)) (allowedAhead left) v))
 
   -- THE CHECK OF A STORED NAME by the allowed bytes at its start, and whether it ends there
   stored-check : checkByAllowed (r - from) (endsAt area r) ≡ nameCheck (storedName left)

@@ -2,24 +2,21 @@
 -- once, or a 32nd byte that is not `=`.
 use Prim.Native.Nat.{ℕ, _+_, _<_, _≤_}
 use mathlib.Core.Path.{_≡_, refl, sym, ap, _∙_}
-use mathlib.Core.List.{List, [], _∷_, _++_, append-assoc, append-nil}
-use mathlib.Core.Logic.{_≢_, _⊎_, inl, inr, _↔_}
+use mathlib.Core.List.{List, [], _∷_, _++_, append-assoc}
+use mathlib.Core.Logic.{_≢_, _⊎_, inl, inr, ⊎-elim, _↔_}
 use native.Mathlib.Omega.{arith}
 use lib.ListN.{length, getD, take, drop, length-append, length-take, take-append-drop, List·getD-append}
 use lib.Seq.{getD-append-add}
-use lib.Dec.{eqb}
-use borrow.Author.Tests.{eqb-true, eqb-false}
 use Rattle.lists.specs.Bytes.{Every}
-use Rattle.lists.proofs.Tests.{split, clash}
 use Rattle.lists.proofs.ListLaws.{drop-next}
 use Rattle.lists.proofs.ByteLaws.{every-at, every-before}
 use Rattle.errors.specs.declared.AreaFault.the-variants.{StoredName}
 use Rattle.names.specs.Rules.{NameByte, FirstWrong, empty, byte}
 use Rattle.names.proofs.NameLaws.{name-not-zero}
 use Rattle.pairs.specs.Scan.{storedName}
-use Rattle.pairs.specs.Rules.{Entry, sizes, UpToEquals, by-equals, by-end, FaultAt, eight}
+use Rattle.pairs.specs.Rules.{Entry, sizes, UpToEquals, by-equals, FaultAt, eight}
 use Rattle.pairs.specs.Rules.{Decides, not-allowed, equals-at-once, thirty-second, DecidedAt}
-use Rattle.pairs.proofs.NameScans.{stored-next, up-next, stored-exactly}
+use Rattle.pairs.proofs.NameScans.{up-next, stored-exactly, up-start, up-clean, up-after}
 use Rattle.pairs.proofs.ScanLaws.{Begun}
 
 -- ---- from the relation of a caller's name
@@ -55,20 +52,9 @@ first-at c bs name t {i} z e a h l before q =
       no-end = first-not-zero c bs (take i name) (getD name i 0) (drop (i + 1) name ++ t) z whole;
     }
 
--- the stored name is the start of the bytes
-up-start : {name bs : List ℕ} → UpToEquals name bs → (t : List ℕ) × (bs ≡ name ++ t)
-up-start (by-equals rest a) = (0x3D ∷ rest, refl)
-up-start (by-end {name = name} a) = ([], sym (append-nil name))
-
-up-clean : {name bs : List ℕ} → UpToEquals name bs → Every (λ b. b ≢ 0x3D) name
-up-clean (by-equals rest a) = a
-up-clean (by-end a) = a
-
 empty-decides : (c : ℕ) (bs : List ℕ) (i : ℕ) → UpToEquals [] (c ∷ bs) → i ≡ 0 → DecidedAt (c ∷ bs) i
 empty-decides c bs i u f =
-    let z : c ≡ 0x3D =
-    split (eqb c 0x3D) (λ t. eqb-true c 0x3D t)
-    (λ t. clash (cc (stored-exactly (c ∷ bs) [] .1 u, stored-next c bs (eqb-false c 0x3D t)))) in
+    let z : c ≡ 0x3D = ⊎-elim (λ q. q) (λ q. absurd (omega arith)) (up-after u) in
     record {
       begun = [];
       decider = c;
@@ -89,9 +75,9 @@ wrong-decides {c} {i} {name} {bs} z u (byte h l before q) =
 
 -- ---- and to it
 
-up-after : {name bs : List ℕ} (begun : List ℕ) → Every NameByte begun → UpToEquals name bs → UpToEquals (begun ++ name) (begun ++ bs)
-up-after [] a u = u
-up-after (b ∷ begun) a u = up-next b (a .0 .no-equals) (up-after begun (a .1) u)
+up-append : {name bs : List ℕ} (begun : List ℕ) → Every NameByte begun → UpToEquals name bs → UpToEquals (begun ++ name) (begun ++ bs)
+up-append [] a u = u
+up-append (b ∷ begun) a u = up-next b (a .0 .no-equals) (up-append begun (a .1) u)
 
 first-after : (begun : List ℕ) (b : ℕ) (t : List ℕ) → Every NameByte begun → length begun ≤ 31 → (¬ (NameByte b)) ⊎ (length begun ≡ 31)
     → FirstWrong (begun ++ b ∷ t) (length begun)
@@ -116,7 +102,7 @@ module _ (past : ℕ) (es : List Entry) where
       → (¬ (NameByte b)) ⊎ (length begun ≡ 31) → FaultAt past es (begun ++ b ∷ rest) StoredName (sizes es + length begun)
   wrong-after begun b rest y a h z w =
       let u = stored-exactly rest (storedName rest) .0 refl in
-      eight-by y (up-after begun a (up-next b z u)) (first-after begun b (storedName rest) a h w)
+      eight-by y (up-append begun a (up-next b z u)) (first-after begun b (storedName rest) a h w)
 
   decides-eight : (begun : List ℕ) (b : ℕ) (rest : List ℕ) → Begun (begun ++ b ∷ rest) → Every NameByte begun → length begun ≤ 31
       → Decides (length begun) b → FaultAt past es (begun ++ b ∷ rest) StoredName (sizes es + length begun)

@@ -65,7 +65,7 @@ pub data FaultAt (past : ℕ) (es : List Entry) : List ℕ → AreaFault → ℕ
   ten : {name stored value : List ℕ} (rest : List ℕ) → NameRule name → Spells stored value → In name es
       → FaultAt past es (name ++ 0x3D ∷ (stored ++ 0x00 ∷ rest)) Repeated (sizes es)
 
--- code 8 in document 01's words: a byte of a stored name that decides it, after k bytes that are allowed
+-- what the case `eight` says, in document 01's words: a byte of a stored name that decides it, after k bytes that are allowed
 pub data Decides (k b : ℕ) : Type 0 where
   not-allowed : b ≢ 0x3D → ¬ (NameByte b) → Decides k b
   equals-at-once : b ≡ 0x3D → k ≡ 0 → Decides k b
