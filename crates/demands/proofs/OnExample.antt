@@ -13,8 +13,9 @@ use Rattle.header.specs.Checksum.{sumFrom}
 use Rattle.header.specs.Header.{headerAt, nameAt, validityOf, validityAt}
 use Rattle.header.specs.Rules.{blocksAt}
 use Rattle.partitions.specs.declared.Partition.{Partition}
+use Rattle.partition_name.specs.Name.{sameName, padded, matchesName}
 use Rattle.partitions.specs.Walk.{allowedLength, partitionOf, pastOf, stepAt, walkFrom, walk}
-use Rattle.partitions.specs.Find.{padded, sameName, matches, firstMatch, findBy, findOf}
+use Rattle.partitions.specs.Find.{matches, firstMatch, findBy, findOf}
 use Rattle.partitions.specs.Cover.{areaAt}
 use Rattle.partitions.specs.Examples.{E}
 use Rattle.names.specs.Name.{nameByte, nameCheckFrom, nameCheck}
@@ -55,7 +56,7 @@ abbrev held : List Entry
 held = record { name = 0x61 ∷ []; value = 0x31 ∷ []; size = 4 } ∷ []
 
 example-common : HasCommon E first
-unfolding commonOf findOf findBy firstMatch matches sameName padded
+unfolding commonOf findOf findBy firstMatch matches matchesName sameName padded
     walk walkFrom stepAt allowedLength partitionOf pastOf validityAt validityOf headerAt nameAt sumFrom sameBytes
 example-common = common-exactly E example-bytes first .0 refl
 

@@ -4,3 +4,4 @@ pub mod Model
 pub mod Library
 pub mod Demands
 pub mod Examples
+pub mod NameExamples

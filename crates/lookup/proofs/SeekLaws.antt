@@ -5,15 +5,22 @@ use mathlib.Core.Bool.{Bool, true, false}
 use mathlib.Core.List.{List, [], _∷_}
 use lib.ListN.{length}
 use Rattle.errors.specs.declared.Error.the-variants.{ImageLength, NoPartition}
+use Rattle.header.specs.declared.Header.{Header}
 use Rattle.header.specs.Header.{headerAt}
+use Rattle.partition_name.specs.Name.{matchesName}
 use Rattle.partitions.specs.declared.Partition.{Partition}
 use Rattle.partitions.specs.declared.Found.{Found}
 use Rattle.partitions.specs.declared.Found.the-variants.{At, Refused}
 use Rattle.partitions.specs.Walk.{Walk, covered, broken, allowedLength}
-use Rattle.partitions.specs.Find.{sameName, matches, firstMatch, findBy, findOf}
+use Rattle.partitions.specs.Find.{matches, firstMatch, findBy, findOf}
 use Rattle.partitions.specs.Helpers.{keepFirst}
 use Rattle.partitions.proofs.WalkLaws.{rest, walk-rest, walk-refused, onWalk}
 use Rattle.partitions.proofs.FoundLaws.{matches-signed, matches-other, find-walk, find-covered, find-broken, match-nothing, match-head, match-tail}
+
+-- the name of the header that was read
+pub header-name : (image : List ℕ) (at : ℕ) (name : List ℕ) (h : Header) → h ≡ headerAt image at
+    → (r : Bool) → r ≡ matchesName (h .name) name → r ≡ matchesName (headerAt image at .name) name
+header-name image at name h eh r er = er ∙ ap (λ (x : Header). matchesName (x .name) name) eh
 
 -- what the turns so far make of the partitions that are left
 abbrev pub seekName : List ℕ → ℕ → List ℕ → Found → List Partition → Found
@@ -52,7 +59,7 @@ module _ (image : List ℕ) (signature : ℕ) (name : List ℕ) where
   -- a turn of the loop, where the signature agrees and where not
   module _ (best : Found) (p : Partition) (ps : List Partition) (s : ℕ) (es : s ≡ headerAt image (p .offset) .signature) where
     pub seek-signed : s ≡ signature → (r : Found)
-        → r ≡ keepFirst best (sameName (headerAt image (p .offset) .name) name) p
+        → r ≡ keepFirst best (matchesName (headerAt image (p .offset) .name) name) p
         → seekName image signature name best (p ∷ ps) ≡ seekName image signature name r ps
     seek-signed e r er =
         ap (λ (b : Bool). seekName image signature name (keepFirst best b p) ps) (matches-signed image (p .offset) signature name (sym es ∙ e))

@@ -1,8 +1,8 @@
 // A partition by its signature and name, and its data area.
 ghost use mathlib.Core.Path.{_≡_};
-ghost use lib.ListN.{getD};
 ghost use Rattle.header.specs.Header.{headerAt};
-ghost use Rattle.partitions.specs.Find.{sameName, findOf, areaOf};
+ghost use Rattle.partition_name.specs.Name.{matchesName};
+ghost use Rattle.partitions.specs.Find.{findOf, areaOf};
 ghost use Rattle.partitions.specs.Helpers.{keepFirst};
 ghost use Rattle.partitions.specs.Views.{findAnswer};
 use errors::Error;
@@ -12,49 +12,17 @@ use partitions::Found;
 use partitions::Partition;
 use partitions::Step;
 
-// The byte at an index, 0 past the name's end.
-fn padded_byte(name: &[u8], i: usize) -> u8
-    ensures { λ r. ⌜ r ≡ getD (now (name .entry)) i 0 ⌝ }
-{
-    if i < name.len() { name[i] } else { 0 }
-}
-
-// Whether stored bytes are a name that is filled with 0x00.
-fn same_padded(stored: &[u8], name: &[u8]) -> bool
-    ensures { λ r. ⌜ r ≡ sameName (now (stored .entry)) (now (name .entry)) ⌝ }
-{
-    let n = stored.len();
-    if n < name.len() {
-        return false;
-    }
-    let mut i = 0;
-    while i < n {
-        if stored[i] != padded_byte(name, i) {
-            return false;
-        }
-        i += 1;
-    }
-    true
-}
-
-// The same of a header's name.
-fn same_name(stored: &[u8; 12], name: &[u8]) -> bool
-    ensures { λ r. ⌜ r ≡ sameName (now (stored .entry)) (now (name .entry)) ⌝ }
-{
-    same_padded(stored, name)
-}
-
-// Whether the header at an offset has this name.
+// Whether the name of the header at an offset matches this one.
 fn has_name(image: &[u8], at: usize, name: &[u8]) -> bool
-    ensures { λ r. ⌜ r ≡ sameName (headerAt (now (image .entry)) at .name) (now (name .entry)) ⌝ }
+    ensures { λ r. ⌜ r ≡ matchesName (headerAt (now (image .entry)) at .name) (now (name .entry)) ⌝ }
 {
     let stored = Header::read(image, at).name;
-    same_name(&stored, name)
+    partition_name::matches_name(&stored, name)
 }
 
-// What was found before, or else the partition where it has this name; its name is read only where nothing was found.
+// What was found before, or else the partition where its name matches; its name is read only where nothing was found.
 fn first_named(best: Found, image: &[u8], p: Partition, name: &[u8]) -> Found
-    ensures { λ r. ⌜ r ≡ keepFirst best (sameName (headerAt (now (image .entry)) (p .offset) .name) (now (name .entry))) p ⌝ }
+    ensures { λ r. ⌜ r ≡ keepFirst best (matchesName (headerAt (now (image .entry)) (p .offset) .name) (now (name .entry))) p ⌝ }
 {
     match best {
         Found::At(q) => Found::At(q),
@@ -68,7 +36,7 @@ fn first_named(best: Found, image: &[u8], p: Partition, name: &[u8]) -> Found
     }
 }
 
-// The first partition in image order that has this signature and this name.
+// The first partition in image order that has this signature and a name that matches this one.
 pub fn find(image: &[u8], signature: u8, name: &[u8]) -> Found
     ensures { λ r. ⌜ r ≡ findOf (now (image .entry)) signature (now (name .entry)) ⌝ }
 {

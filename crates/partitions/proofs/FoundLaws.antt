@@ -1,51 +1,34 @@
 -- What finding a partition answers, exactly: the first of its name, the one of its index, or the error that refuses it.
-use Prim.Native.Nat.{ℕ, suc, zero, _+_, _-_, _≤_}
+use Prim.Native.Nat.{ℕ, suc, zero, _≤_}
 use mathlib.Core.Path.{_≡_, ap, refl, sym, _∙_}
 use mathlib.Core.Logic.{_↔_, _⊎_, inl, inr}
 use mathlib.Core.Bool.{true, false}
 use mathlib.Core.List.{List, [], _∷_, _++_}
 use native.Mathlib.Omega.{arith}
-use lib.ListN.{length, getD, replicate, length-append, length-replicate}
+use lib.ListN.{length}
 use lib.Dec.{eqb}
 use borrow.Author.Tests.{eq-eqb, ne-eqb, eqb-true}
-use Rattle.lists.specs.Bytes.{AllBytes, sameBytes}
+use Rattle.lists.specs.Bytes.{AllBytes}
 use Rattle.lists.proofs.Tests.{split, clash, and-true}
-use Rattle.lists.proofs.ListLaws.{zeros-at}
-use Rattle.lists.proofs.ByteLaws.{same-refl, same-true}
 use Rattle.errors.specs.declared.Error.{Error}
 use Rattle.errors.specs.declared.Error.the-variants.{NoPartition}
 use Rattle.header.specs.Header.{headerAt, nameAt}
-use Rattle.header.proofs.RuleLaws.{signature-read, name-read, name-length}
+use Rattle.header.proofs.RuleLaws.{signature-read, name-read}
+use Rattle.partition_name.specs.Rules.{MatchesName}
+use Rattle.partition_name.specs.Name.{matchesName}
+use Rattle.partition_name.proofs.MatchLaws.{matches-exactly}
 use Rattle.partitions.specs.declared.Partition.{Partition}
 use Rattle.partitions.specs.declared.Found.{Found}
 use Rattle.partitions.specs.declared.Found.the-variants.{At, Refused}
 use Rattle.partitions.specs.Walk.{Walk, covered, broken, walk}
-use Rattle.partitions.specs.Find.{padded, sameName, matches, firstMatch, findBy, findOf, atIndex, indexBy, indexOf}
+use Rattle.partitions.specs.Find.{matches, firstMatch, findBy, findOf, atIndex, indexBy, indexOf}
 use Rattle.partitions.specs.Cover.{Accepted, Rejected, Named, NoneNamed, FirstNamed, Indexed, NotNamed, NotIndexed}
 use Rattle.partitions.proofs.CoverLaws.{Walked, accepts, rejects, walked, accepted-exactly, rejected-exactly}
-
-pub length-padded : (n : ℕ) (name : List ℕ) → length (padded n name) ≡ length name + (n - length name)
-unfolding padded
-length-padded n name = simp (length-append, length-replicate)
-
-filled-at : (name : List ℕ) (k i : ℕ) → getD (name ++ replicate k 0) i 0 ≡ getD name i 0
-filled-at [] k i = zeros-at k i
-filled-at (x ∷ xs) k zero = refl
-filled-at (x ∷ xs) k (suc i) = filled-at xs k i
-
--- a name goes on with zeros
-pub padded-at : (n : ℕ) (name : List ℕ) (i : ℕ) → getD (padded n name) i 0 ≡ getD name i 0
-unfolding padded
-padded-at n name i = filled-at name (n - length name) i
-
-pub same-padded : (stored name : List ℕ) → sameName stored name ≡ sameBytes stored (padded (length stored) name)
-unfolding sameName
-same-padded stored name = refl
 
 -- the test of a header, where its signature is the one that is asked for, and where not
 module _ (image : List ℕ) (at signature : ℕ) (name : List ℕ) where
   pub matches-signed : headerAt image at .signature ≡ signature
-      → matches image signature name at ≡ sameName (headerAt image at .name) name
+      → matches image signature name at ≡ matchesName (headerAt image at .name) name
   unfolding matches
   matches-signed e = rw (eq-eqb _ _ e)
 
@@ -55,32 +38,20 @@ module _ (image : List ℕ) (at signature : ℕ) (name : List ℕ) where
 
 -- the test of a name and the rule
 module _ (image : List ℕ) (signature : ℕ) (name : List ℕ) (at : ℕ) where
-  -- the stored name has twelve bytes
-  same-read : sameName (headerAt image at .name) name ≡ sameBytes (nameAt image at) (padded 12 name)
-  same-read =
-      ap (λ (l : List ℕ). sameName l name) (name-read image at) ∙ same-padded (nameAt image at) name
-      ∙ ap (λ (k : ℕ). sameBytes (nameAt image at) (padded k name)) (name-length image at)
-
-  named-same : Named image signature name at → sameName (headerAt image at .name) name ≡ true
-  unfolding padded
-  named-same n = same-read ∙ rw (n .named) (same-refl (padded 12 name))
-
-  same-named : sameName (headerAt image at .name) name ≡ true → nameAt image at ≡ padded 12 name
-  same-named e = same-true (nameAt image at) (padded 12 name) (sym same-read ∙ e)
+  name-exactly : (matchesName (headerAt image at .name) name ≡ true) ↔ MatchesName (nameAt image at) name
+  name-exactly = rw (name-read image at) (matches-exactly (nameAt image at) name)
 
   pub named-matches : Named image signature name at → matches image signature name at ≡ true
   unfolding matches
-  named-matches n = rw (eq-eqb _ _ (signature-read image at ∙ n .signed)) (named-same n)
+  named-matches n = rw (eq-eqb _ _ (signature-read image at ∙ n .signed)) (name-exactly .1 (n .named))
 
   pub matches-named : matches image signature name at ≡ true → Named image signature name at
-  unfolding matches padded
+  unfolding matches
   matches-named e =
-      let t = and-true (eqb (headerAt image at .signature) signature) (sameName (headerAt image at .name) name) e in
-      let n : nameAt image at ≡ padded 12 name = same-named (t .1) in
+      let t = and-true (eqb (headerAt image at .signature) signature) (matchesName (headerAt image at .name) name) e in
       record {
         signed = sym (signature-read image at) ∙ eqb-true (headerAt image at .signature) signature (t .0);
-        short = omega (arith, length-padded 12 name, ap length n, name-length image at);
-        named = n;
+        named = name-exactly .0 (t .1);
       }
 
   pub not-matches : ¬ (Named image signature name at) → matches image signature name at ≡ false

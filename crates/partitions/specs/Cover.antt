@@ -2,13 +2,14 @@
 use Prim.Native.Nat.{ℕ, _+_, _-_, _*_, _%_, _≤_, _<_}
 use mathlib.Core.Path.{_≡_}
 use mathlib.Core.List.{List, [], _∷_, _++_}
-use lib.ListN.{length, take, drop, replicate}
+use lib.ListN.{length, take, drop}
 use Rattle.errors.specs.declared.HeaderFault.{HeaderFault}
 use Rattle.errors.specs.declared.HeaderFault.the-variants.{ZeroLength, PastEnd, Checksum}
 use Rattle.errors.specs.declared.Error.{Error}
 use Rattle.errors.specs.declared.Error.the-variants.{ImageLength, BadHeader}
 use Rattle.header.specs.Header.{byteAt, nameAt}
 use Rattle.header.specs.Rules.{blocksAt, Sound, Breaks}
+use Rattle.partition_name.specs.Rules.{MatchesName}
 use Rattle.partitions.specs.declared.Partition.{Partition}
 use Rattle.partitions.specs.declared.StepAnswer.{StepAnswer}
 
@@ -50,11 +51,10 @@ pub data Rejected (image : List ℕ) : Error → Type 0 where
   header : {a : ℕ} {ps : List Partition} {f : HeaderFault} → LengthRule (length image) → Cover image 0 a ps → a < length image
       → Breaks image a f → Rejected image (BadHeader f a)
 
--- signature and name of the header at an offset: all twelve bytes, a shorter name filled with 0x00, a longer one never
+-- the header at an offset has this signature, and its twelve bytes of name match this name
 pub record Named (image : List ℕ) (signature : ℕ) (name : List ℕ) (at : ℕ) : Type 0 where
   pub signed : byteAt image at 0 ≡ signature
-  pub short : length name ≤ 12
-  pub named : nameAt image at ≡ name ++ replicate (12 - length name) 0
+  pub named : MatchesName (nameAt image at) name
 
 -- no partition of a list is so named
 abbrev pub NoneNamed : List ℕ → ℕ → List ℕ → List Partition → Type 0

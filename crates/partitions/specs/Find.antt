@@ -1,12 +1,12 @@
 -- The image check, a partition by its index or by its signature and name, and its data area.
 use Prim.Native.Nat.{ℕ, zero, suc, _+_, _-_}
 use mathlib.Core.Bool.{Bool, _&&_, cond}
-use mathlib.Core.List.{List, [], _∷_, _++_}
-use lib.ListN.{length, take, drop, replicate}
+use mathlib.Core.List.{List, [], _∷_}
+use lib.ListN.{length, take, drop}
 use lib.Dec.{eqb}
-use Rattle.lists.specs.Bytes.{sameBytes}
 use Rattle.errors.specs.declared.Error.the-variants.{NoPartition}
 use Rattle.header.specs.Header.{headerAt, bytesOf}
+use Rattle.partition_name.specs.Name.{matchesName}
 use Rattle.partitions.specs.declared.Partition.{Partition}
 use Rattle.partitions.specs.declared.Checked.{Checked}
 use Rattle.partitions.specs.declared.Checked.the-variants as Checked
@@ -38,18 +38,10 @@ indexBy n (broken e) = Refused e
 unfoldable pub indexOf : List ℕ → ℕ → Found
 indexOf image n = indexBy n (walk image)
 
--- a name filled with 0x00 to n bytes; a longer one stays as it is
-unfoldable pub padded : ℕ → List ℕ → List ℕ
-padded n name = name ++ replicate (n - length name) 0
-
--- whether a stored name is the caller's, filled with 0x00
-unfoldable pub sameName : List ℕ → List ℕ → Bool
-sameName stored name = sameBytes stored (padded (length stored) name)
-
--- whether the header at an offset has this signature and this name
+-- whether the header at an offset has this signature and a name that matches this one
 unfoldable pub matches : List ℕ → ℕ → List ℕ → ℕ → Bool
 matches image signature name at =
-    eqb (headerAt image at .signature) signature && sameName (headerAt image at .name) name
+    eqb (headerAt image at .signature) signature && matchesName (headerAt image at .name) name
 
 -- the first in image order that matches; code 6 where none does
 unfoldable pub firstMatch : List ℕ → ℕ → List ℕ → List Partition → Found

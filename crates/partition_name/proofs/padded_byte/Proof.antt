@@ -1,10 +1,10 @@
--- `lookup::padded_byte` meets its contract: inside the name, or past its end.
+-- `partition_name::padded_byte` meets its contract: inside the name, or past its end.
 use mathlib.Core.Path.{sym}
 use denote.Ref.{now}
 use lib.ListN.{List·getD-eq-default}
 use borrow.Author.Needs.{needs}
-use Rattle.lookup.proofs.padded_byte.Statement.{statement}
-use Rattle.lookup.proofs.padded_byte.Tie as tie
+use Rattle.partition_name.proofs.padded_byte.Statement.{statement}
+use Rattle.partition_name.proofs.padded_byte.Tie as tie
 
 shared-slice-read-result : tie.Need-shared-slice-read-result
 shared-slice-read-result c = search needs

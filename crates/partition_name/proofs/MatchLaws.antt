@@ -1,0 +1,64 @@
+-- A stored name and the one that a caller gives: what is computed holds exactly when the rule does.
+use Prim.Native.Nat.{ℕ, zero, suc, _-_, _≤_}
+use mathlib.Core.Path.{_≡_, refl, sym, _∙_}
+use mathlib.Core.Bool.{true}
+use mathlib.Core.List.{List, [], _∷_, _++_}
+use mathlib.Core.Logic.{_↔_}
+use native.Mathlib.Omega.{arith}
+use lib.ListN.{length, getD, replicate, length-append, length-replicate}
+use lib.Dec.{leb}
+use borrow.Author.Tests.{leb-true, le-leb}
+use Rattle.lists.proofs.Tests.{and-true}
+use Rattle.lists.proofs.ListLaws.{zeros-at}
+use Rattle.partition_name.specs.Rules.{SameName, MatchesName, NoLeftover}
+use Rattle.partition_name.specs.Name.{sameName, padded, matchesName}
+use Rattle.partition_name.proofs.SameLaws.{same-exactly, same-symmetric, same-transitive, same-no-leftover}
+
+-- a name goes on with zeros
+filled-at : (name : List ℕ) (k i : ℕ) → getD (name ++ replicate k 0) i 0 ≡ getD name i 0
+filled-at [] k i = zeros-at k i
+filled-at (x ∷ xs) k zero = refl
+filled-at (x ∷ xs) k (suc i) = filled-at xs k i
+
+pub padded-at : (name : List ℕ) (i : ℕ) → getD (padded name) i 0 ≡ getD name i 0
+unfolding padded
+padded-at name i = filled-at name (12 - length name) i
+
+pub length-padded : (name : List ℕ) → length name ≤ 12 → length (padded name) ≡ 12
+unfolding padded
+length-padded name h = simp (length-append, length-replicate) (omega arith)
+
+module _ (stored given : List ℕ) where
+  -- A MATCH exactly when the rule says so
+  pub matches-exactly : (matchesName stored given ≡ true) ↔ MatchesName stored given
+  unfolding matchesName padded
+  matches-exactly = (
+    λ e.
+        let t = and-true (leb (length given) 12) (sameName stored (padded given)) e in
+        record { at-most-twelve = leb-true (length given) 12 (t .0); same = same-exactly stored (padded given) .0 (t .1) },
+    λ m. rw (le-leb (length given) 12 (m .at-most-twelve)) (same-exactly stored (padded given) .1 (m .same)),
+  )
+
+  -- STORED NAMES THAT ARE THE SAME match the same names
+  pub matches-same : (other : List ℕ) → SameName stored other → MatchesName stored given → MatchesName other given
+  unfolding padded
+  matches-same other s m =
+      record {
+        at-most-twelve = m .at-most-twelve;
+        same = same-transitive other stored (padded given) (same-symmetric stored other s) (m .same);
+      }
+
+  -- WITHOUT LEFTOVER BYTES the rule is document 01's: all twelve bytes are those of the padded name
+  pub matches-no-leftover : length stored ≡ 12 → NoLeftover stored → NoLeftover given
+      → MatchesName stored given ↔ ((length given ≤ 12) × (stored ≡ given ++ replicate (12 - length given) 0x00))
+  unfolding padded
+  matches-no-leftover t p q = (
+    λ m. (m .at-most-twelve, same-no-leftover stored (padded given) p padded-zeros (lengths (m .at-most-twelve)) .0 (m .same)),
+    λ h. record { at-most-twelve = h .0; same = same-no-leftover stored (padded given) p padded-zeros (lengths (h .0)) .1 (h .1) },
+  )
+    where
+      padded-zeros : NoLeftover (padded given)
+      padded-zeros = record { zeros = λ i k h z. padded-at given k ∙ q .zeros i k h (sym (padded-at given i) ∙ z) }
+
+      lengths : length given ≤ 12 → length stored ≡ length (padded given)
+      lengths h = t ∙ sym (length-padded given h)

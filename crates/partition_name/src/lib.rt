@@ -1,0 +1,41 @@
+// The name of a partition, as a header stores it and as a caller gives it.
+ghost use mathlib.Core.Path.{_≡_};
+ghost use lib.ListN.{length as len, getD};
+ghost use Rattle.partition_name.specs.Name.{matchesName};
+
+// The byte at an index, 0x00 past the name's end.
+fn padded_byte(name: &[u8], i: usize) -> u8
+    ensures { λ r. ⌜ r ≡ getD (now (name .entry)) i 0 ⌝ }
+{
+    if i < name.len() { name[i] } else { 0 }
+}
+
+// Whether twelve stored bytes match the name that a caller gives.
+fn matches_bytes(stored: &[u8], given: &[u8]) -> bool
+    requires { ⌜ len (now stored) ≡ 12 ⌝ }
+    ensures { λ r. ⌜ r ≡ matchesName (now (stored .entry)) (now (given .entry)) ⌝ }
+{
+    let n = stored.len();
+    if n < given.len() {
+        return false;
+    }
+    let mut i = 0;
+    while i < n {
+        let byte = padded_byte(given, i);
+        if stored[i] != byte {
+            return false;
+        }
+        if byte == 0 {
+            return true;
+        }
+        i += 1;
+    }
+    true
+}
+
+// Whether a stored name matches the one that a caller gives: this one is filled with 0x00, and both end at their first 0x00.
+pub fn matches_name(stored: &[u8; 12], given: &[u8]) -> bool
+    ensures { λ r. ⌜ r ≡ matchesName (now (stored .entry)) (now (given .entry)) ⌝ }
+{
+    matches_bytes(stored, given)
+}
