@@ -29,8 +29,8 @@ extern "C" {
 /* The version of this header and of the library. */
 #define NVRAM_VERSION_MAJOR 0
 #define NVRAM_VERSION_MINOR 3
-#define NVRAM_VERSION_PATCH 0
-#define NVRAM_VERSION "0.3.0"
+#define NVRAM_VERSION_PATCH 1
+#define NVRAM_VERSION "0.3.1"
 
 /* Limits, in bytes. */
 #define NVRAM_BLOCK 16                /* a block, and a header */
@@ -115,9 +115,10 @@ uint32_t nvram_partition(const uint8_t *image, size_t image_len, size_t index,
                          size_t *offset, size_t *header, size_t *blocks,
                          uint8_t *signature);
 
-/* The first partition of a signature and a name, which is filled with 0x00 to
- * NVRAM_PARTITION_NAME_MAX bytes; a longer one matches none. Codes 0 to 4 and
- * 6. */
+/* The first partition of a signature and a name, which is padded with 0x00 to
+ * NVRAM_PARTITION_NAME_MAX bytes; a longer one matches none. Two names are the
+ * same where they agree up to and with the first 0x00 of either, or in all
+ * bytes where neither has one. Codes 0 to 4 and 6. */
 uint32_t nvram_find(const uint8_t *image, size_t image_len, uint8_t signature,
                     const uint8_t *name, size_t name_len,
                     size_t *offset, size_t *header, size_t *blocks);

@@ -1,5 +1,5 @@
-/* Holds each limit of nvram.h to the library: done at the limit, refused one past it; the index that a wrong name is
- * refused at; and the texts of its codes. */
+/* Holds each limit of nvram.h to the library: done at the limit, refused one past it; where a partition's name ends; the
+ * index that a wrong name is refused at; and the texts of its codes. */
 #include <stdio.h>
 #include <string.h>
 
@@ -69,6 +69,33 @@ static size_t common_blocks(void)
     memset(image, 0, sizeof image);
     memcpy(image, header, NVRAM_BLOCK);
     return 6 * NVRAM_BLOCK;
+}
+
+/* A partition is found by this name, or not. */
+static void found(const char *label, const char *name, size_t name_len, uint32_t code)
+{
+    const size_t length = 6 * NVRAM_BLOCK;
+    want(label, nvram_find(image, length, 0x70, (const uint8_t *)name, name_len, &offset, &number, &blocks), code);
+    want(label, (uint32_t)blocks, code == NVRAM_DONE ? 6 : 0);
+}
+
+/* A partition's name ends at its 0x00, a stored one with a leftover byte after it too, and so does a caller's. */
+static void partition_names(void)
+{
+    static const uint8_t header[NVRAM_BLOCK + 1] = "\x70\x7A\x00\x06" "common\0\0x\0\0";
+    const size_t length = common_blocks();
+    memcpy(image, header, NVRAM_BLOCK);
+    found("a leftover byte", "common", 6, NVRAM_DONE);
+    found("a string with its end", "common", 7, NVRAM_DONE);
+    found("a leftover byte in the caller's name", "common\0y", 8, NVRAM_DONE);
+    found("twelve bytes", "common\0yyyyy", NVRAM_PARTITION_NAME_MAX, NVRAM_DONE);
+    found("thirteen bytes", "common\0yyyyyy", NVRAM_PARTITION_NAME_MAX + 1, NVRAM_NO_PARTITION);
+    found("a beginning", "comm", 4, NVRAM_NO_PARTITION);
+    found("a beginning with its end", "comm\0on", 7, NVRAM_NO_PARTITION);
+    found("a longer name", "commons", 7, NVRAM_NO_PARTITION);
+    want("variables by a leftover byte", nvram_count(image, length, &offset, &number), NVRAM_DONE);
+    want("a set by a leftover byte", nvram_set(image, length, value, 1, value, 1, &offset), NVRAM_DONE);
+    want("the stored name", memcmp(image, header, NVRAM_BLOCK) == 0, 1);
 }
 
 /* A variable's name. */
@@ -147,6 +174,7 @@ int main(void)
 {
     partitions();
     listing();
+    partition_names();
     variables();
     wrong_bytes();
     codes();

@@ -101,6 +101,9 @@ pub fn partition(image: &[u8], index: usize) -> Result<Partition, Error> {
 
 /// The first partition with a signature and a name.
 ///
+/// The name is padded with 0x00 to twelve bytes, and a longer one is found nowhere. Two names are the same where they agree
+/// up to and with the first 0x00 of either, or in all twelve bytes where neither has one.
+///
 /// ```
 /// let mut image = [0x77; 16];
 /// image[..4].copy_from_slice(&[0x7F, 0x1A, 0x00, 0x01]);

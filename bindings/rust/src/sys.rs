@@ -23,7 +23,7 @@ extern "C" {
         signature: *mut u8,
     ) -> u32;
 
-    /// Stores where the first partition with a signature and a name stands, and its blocks.
+    /// Stores where the first partition with a signature and a name stands, and its blocks; the name ends at its first 0x00.
     pub fn nvram_find(
         image: *const u8,
         image_len: usize,

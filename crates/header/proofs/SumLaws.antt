@@ -29,12 +29,15 @@ part-bytes image at k (suc n) h =
     ap (take (suc n)) (drop-cons image (at + k) 0 (omega arith))
     ∙ ap (λ (l : List ℕ). byteAt image at k ∷ l) (ap (λ (m : ℕ). take n (drop m image)) e ∙ part-bytes image at (suc k) n (omega arith))
 
--- the twelve bytes of the name in a whole header
-pub name-sum : (image : List ℕ) (at : ℕ) → at + 16 ≤ length image → sum (take (at + 16 - (at + 4)) (drop (at + 4) image)) ≡ sum (nameAt image at)
+-- the twelve bytes of the name in a whole header, as the code lends them
+pub name-part : (image : List ℕ) (at : ℕ) → at + 16 ≤ length image → take (at + 16 - (at + 4)) (drop (at + 4) image) ≡ nameAt image at
 unfolding nameAt
-name-sum image at h =
+name-part image at h =
     let n : at + 16 - (at + 4) ≡ 12 = omega arith in
-    (λ i. sum (take (n i) (drop (at + 4) image))) ∙ ap sum (part-bytes image at 4 12 (omega arith))
+    (λ i. take (n i) (drop (at + 4) image)) ∙ part-bytes image at 4 12 (omega arith)
+
+pub name-sum : (image : List ℕ) (at : ℕ) → at + 16 ≤ length image → sum (take (at + 16 - (at + 4)) (drop (at + 4) image)) ≡ sum (nameAt image at)
+name-sum image at h = ap sum (name-part image at h)
 
 -- A WHOLE HEADER is its 16 bytes in their order: signature, checksum, the length's two bytes, name
 pub header-bytes : (image : List ℕ) (at : ℕ) → at + 16 ≤ length image

@@ -1,26 +1,36 @@
 -- The loop that looks for a partition by its signature and name.
-use Prim.Native.Nat.{ℕ}
+use Prim.Native.Nat.{ℕ, _+_, _-_, _≤_}
 use mathlib.Core.Path.{_≡_, ap, refl, sym, _∙_}
 use mathlib.Core.Bool.{Bool, true, false}
 use mathlib.Core.List.{List, [], _∷_}
-use lib.ListN.{length}
+use native.Mathlib.Omega.{arith}
+use lib.ListN.{length, take, drop}
 use Rattle.errors.specs.declared.Error.the-variants.{ImageLength, NoPartition}
-use Rattle.header.specs.declared.Header.{Header}
 use Rattle.header.specs.Header.{headerAt}
+use Rattle.header.proofs.SumLaws.{name-part}
+use Rattle.header.proofs.RuleLaws.{name-read}
 use Rattle.partition_name.specs.Name.{matchesName}
 use Rattle.partitions.specs.declared.Partition.{Partition}
 use Rattle.partitions.specs.declared.Found.{Found}
 use Rattle.partitions.specs.declared.Found.the-variants.{At, Refused}
-use Rattle.partitions.specs.Walk.{Walk, covered, broken, allowedLength}
+use Rattle.partitions.specs.declared.Cursor.{Cursor}
+use Rattle.partitions.specs.declared.Step.the-variants.{Next}
+use Rattle.partitions.specs.Walk.{Walk, covered, broken, allowedLength, stepAt}
 use Rattle.partitions.specs.Find.{matches, firstMatch, findBy, findOf}
 use Rattle.partitions.specs.Helpers.{keepFirst}
 use Rattle.partitions.proofs.WalkLaws.{rest, walk-rest, walk-refused, onWalk}
+use Rattle.partitions.proofs.LoopLaws.{next-goes}
 use Rattle.partitions.proofs.FoundLaws.{matches-signed, matches-other, find-walk, find-covered, find-broken, match-nothing, match-head, match-tail}
 
--- the name of the header that was read
-pub header-name : (image : List ℕ) (at : ℕ) (name : List ℕ) (h : Header) → h ≡ headerAt image at
-    → (r : Bool) → r ≡ matchesName (h .name) name → r ≡ matchesName (headerAt image at .name) name
-header-name image at name h eh r er = er ∙ ap (λ (x : Header). matchesName (x .name) name) eh
+-- the name in the image, where the header is whole
+pub header-name : (image : List ℕ) (at : ℕ) → at + 16 ≤ length image → (name : List ℕ) (r : Bool)
+    → r ≡ matchesName (take (at + 16 - (at + 4)) (drop (at + 4) image)) name → r ≡ matchesName (headerAt image at .name) name
+header-name image at h name r e =
+    e ∙ ap (λ (l : List ℕ). matchesName l name) (name-part image at h ∙ sym (name-read image at))
+
+-- and it is whole where the walk goes on
+pub whole-header : (image : List ℕ) (at : ℕ) (p : Partition) (c : Cursor) → stepAt image at ≡ Next p c → p .offset + 16 ≤ length image
+whole-header image at p c e = let g = next-goes image at p c e in omega (arith, g .here, g .some, g .past, g .inside)
 
 -- what the turns so far make of the partitions that are left
 abbrev pub seekName : List ℕ → ℕ → List ℕ → Found → List Partition → Found

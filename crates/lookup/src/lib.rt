@@ -1,5 +1,7 @@
 // A partition by its signature and name, and its data area.
 ghost use mathlib.Core.Path.{_≡_};
+ghost use Prim.Native.Nat.{_+_, _≤_};
+ghost use lib.ListN.{length as len};
 ghost use Rattle.header.specs.Header.{headerAt};
 ghost use Rattle.partition_name.specs.Name.{matchesName};
 ghost use Rattle.partitions.specs.Find.{findOf, areaOf};
@@ -12,16 +14,22 @@ use partitions::Found;
 use partitions::Partition;
 use partitions::Step;
 
-// Whether the name of the header at an offset matches this one.
+// Where the name stands in a header.
+const NAME: usize = 4;
+
+// Whether the name of a whole header at an offset matches this one; it is compared where it stands.
 fn has_name(image: &[u8], at: usize, name: &[u8]) -> bool
+    requires { ⌜ at + 16 ≤ len (now image) ⌝ }
     ensures { λ r. ⌜ r ≡ matchesName (headerAt (now (image .entry)) at .name) (now (name .entry)) ⌝ }
 {
-    let stored = Header::read(image, at).name;
-    partition_name::matches_name(&stored, name)
+    let start = at + NAME;
+    let end = at + Header::SIZE;
+    partition_name::matches_name(&image[start..end], name)
 }
 
-// What was found before, or else the partition where its name matches; its name is read only where nothing was found.
+// What was found before, or else the partition where its name matches; its name is looked at only where nothing was found.
 fn first_named(best: Found, image: &[u8], p: Partition, name: &[u8]) -> Found
+    requires { ⌜ p .offset + 16 ≤ len (now image) ⌝ }
     ensures { λ r. ⌜ r ≡ keepFirst best (matchesName (headerAt (now (image .entry)) (p .offset) .name) (now (name .entry))) p ⌝ }
 {
     match best {

@@ -19,9 +19,13 @@ unfolding sameName
 same-step a b i ha hb = rw (add-one, drop-cons a i 0 ha, drop-cons b i 0 hb)
 
 module _ (stored given : List ℕ) where
-  pub too-long : 12 < length given → false ≡ matchesName stored given
+  pub not-twelve : (length stored ≡ 12 → ⊥) → false ≡ matchesName stored given
   unfolding matchesName
-  too-long h = rw (lt-leb (length given) 12 h)
+  not-twelve n = rw (ne-eqb (length stored) 12 n)
+
+  pub too-long : length stored ≡ 12 → 12 < length given → false ≡ matchesName stored given
+  unfolding matchesName
+  too-long t h = rw (eq-eqb (length stored) 12 t, lt-leb (length given) 12 h)
 
   -- the bytes before i agree, and none of them is 0x00
   pub record Agree (i : ℕ) : Type 0 where
@@ -31,7 +35,7 @@ module _ (stored given : List ℕ) where
 
   pub agree-none : length stored ≡ 12 → length given ≤ 12 → Agree 0
   unfolding matchesName
-  agree-none t s = record { twelve = t; short = s; rest = rw (le-leb (length given) 12 s) }
+  agree-none t s = record { twelve = t; short = s; rest = rw (eq-eqb (length stored) 12 t, le-leb (length given) 12 s) }
 
   module _ (i : ℕ) (inv : Agree i) where
     module _ (h : i < 12) (b : ℕ) (eb : b ≡ getD given i 0) where

@@ -1,13 +1,13 @@
 -- A stored name and the one that a caller gives: what is computed holds exactly when the rule does.
 use Prim.Native.Nat.{ℕ, zero, suc, _-_, _≤_}
-use mathlib.Core.Path.{_≡_, refl, sym, _∙_}
-use mathlib.Core.Bool.{true}
+use mathlib.Core.Path.{_≡_, ap, refl, sym, _∙_}
+use mathlib.Core.Bool.{true, _&&_}
 use mathlib.Core.List.{List, [], _∷_, _++_}
 use mathlib.Core.Logic.{_↔_}
 use native.Mathlib.Omega.{arith}
 use lib.ListN.{length, getD, replicate, length-append, length-replicate}
-use lib.Dec.{leb}
-use borrow.Author.Tests.{leb-true, le-leb}
+use lib.Dec.{leb, eqb}
+use borrow.Author.Tests.{eqb-true, eq-eqb, leb-true, le-leb}
 use Rattle.lists.proofs.Tests.{and-true}
 use Rattle.lists.proofs.ListLaws.{zeros-at}
 use Rattle.partition_name.specs.Rules.{SameName, MatchesName, NoLeftover}
@@ -34,31 +34,44 @@ module _ (stored given : List ℕ) where
   unfolding matchesName padded
   matches-exactly = (
     λ e.
-        let t = and-true (leb (length given) 12) (sameName stored (padded given)) e in
-        record { at-most-twelve = leb-true (length given) 12 (t .0); same = same-exactly stored (padded given) .0 (t .1) },
-    λ m. rw (le-leb (length given) 12 (m .at-most-twelve)) (same-exactly stored (padded given) .1 (m .same)),
+        let n = and-true (eqb (length stored) 12) (leb (length given) 12 && sameName stored (padded given)) e in
+        let t = and-true (leb (length given) 12) (sameName stored (padded given)) (n .1) in
+        record {
+          twelve = eqb-true (length stored) 12 (n .0);
+          at-most-twelve = omega (arith, leb-true (length given) 12 (t .0));
+          same = same-exactly stored (padded given) .0 (t .1);
+        },
+    λ m.
+        rw (eq-eqb (length stored) 12 (m .twelve), le-leb (length given) 12 (m .at-most-twelve))
+        (same-exactly stored (padded given) .1 (m .same)),
   )
 
   -- STORED NAMES THAT ARE THE SAME match the same names
-  pub matches-same : (other : List ℕ) → SameName stored other → MatchesName stored given → MatchesName other given
+  pub matches-same : (other : List ℕ) → length other ≡ 12 → SameName stored other → MatchesName stored given → MatchesName other given
   unfolding padded
-  matches-same other s m =
+  matches-same other t s m =
       record {
+        twelve = t;
         at-most-twelve = m .at-most-twelve;
         same = same-transitive other stored (padded given) (same-symmetric stored other s) (m .same);
       }
 
   -- WITHOUT LEFTOVER BYTES the rule is document 01's: all twelve bytes are those of the padded name
-  pub matches-no-leftover : length stored ≡ 12 → NoLeftover stored → NoLeftover given
+  pub matches-no-leftover : NoLeftover stored → NoLeftover given
       → MatchesName stored given ↔ ((length given ≤ 12) × (stored ≡ given ++ replicate (12 - length given) 0x00))
   unfolding padded
-  matches-no-leftover t p q = (
-    λ m. (m .at-most-twelve, same-no-leftover stored (padded given) p padded-zeros (lengths (m .at-most-twelve)) .0 (m .same)),
-    λ h. record { at-most-twelve = h .0; same = same-no-leftover stored (padded given) p padded-zeros (lengths (h .0)) .1 (h .1) },
+  matches-no-leftover p q = (
+    λ m.
+        let l = m .twelve ∙ sym (length-padded given (m .at-most-twelve)) in
+        (m .at-most-twelve, same-no-leftover stored (padded given) p padded-zeros l .0 (m .same)),
+    λ h.
+        let l = ap length (h .1) in
+        record {
+          twelve = l ∙ length-padded given (h .0);
+          at-most-twelve = h .0;
+          same = same-no-leftover stored (padded given) p padded-zeros l .1 (h .1);
+        },
   )
     where
       padded-zeros : NoLeftover (padded given)
       padded-zeros = record { zeros = λ i k h z. padded-at given k ∙ q .zeros i k h (sym (padded-at given i) ∙ z) }
-
-      lengths : length given ≤ 12 → length stored ≡ length (padded given)
-      lengths h = t ∙ sym (length-padded given h)

@@ -18,4 +18,4 @@ padded name = name ++ replicate (12 - length name) 0x00
 
 -- whether a stored name matches the one that a caller gives
 unfoldable pub matchesName : List ℕ → List ℕ → Bool
-matchesName stored given = leb (length given) 12 && sameName stored (padded given)
+matchesName stored given = eqb (length stored) 12 && (leb (length given) 12 && sameName stored (padded given))

@@ -18,8 +18,10 @@ pub data SameName (a b : List ℕ) : Type 0 where
   up-to-zero : {i : ℕ} → FirstZero a b i → ((k : ℕ) → k ≤ i → getD a k 0 ≡ getD b k 0) → SameName a b
   no-zero : Every (λ c. c ≢ 0x00) a → Every (λ c. c ≢ 0x00) b → a ≡ b → SameName a b
 
--- a stored name matches the one that a caller gives, which is padded with 0x00 to twelve bytes (document 01: filled); a longer one matches none
+-- a stored name, of twelve bytes, matches the one that a caller gives, which is padded with 0x00 to twelve (document 01: filled); a longer
+-- one matches none
 pub record MatchesName (stored given : List ℕ) : Type 0 where
+  pub twelve : length stored ≡ 12
   pub at-most-twelve : length given ≤ 12
   pub same : SameName stored (given ++ replicate (12 - length given) 0x00)
 

@@ -1,7 +1,10 @@
 // The name of a partition, as a header stores it and as a caller gives it.
 ghost use mathlib.Core.Path.{_≡_};
-ghost use lib.ListN.{length as len, getD};
+ghost use lib.ListN.{getD};
 ghost use Rattle.partition_name.specs.Name.{matchesName};
+
+// The bytes of a stored name.
+const NAME: usize = 12;
 
 // The byte at an index, 0x00 past the name's end.
 fn padded_byte(name: &[u8], i: usize) -> u8
@@ -10,17 +13,18 @@ fn padded_byte(name: &[u8], i: usize) -> u8
     if i < name.len() { name[i] } else { 0 }
 }
 
-// Whether twelve stored bytes match the name that a caller gives.
-fn matches_bytes(stored: &[u8], given: &[u8]) -> bool
-    requires { ⌜ len (now stored) ≡ 12 ⌝ }
+// Whether a stored name matches the one that a caller gives: this one is padded with 0x00, and both end at their first 0x00.
+pub fn matches_name(stored: &[u8], given: &[u8]) -> bool
     ensures { λ r. ⌜ r ≡ matchesName (now (stored .entry)) (now (given .entry)) ⌝ }
 {
-    let n = stored.len();
-    if n < given.len() {
+    if stored.len() != NAME {
+        return false;
+    }
+    if NAME < given.len() {
         return false;
     }
     let mut i = 0;
-    while i < n {
+    while i < NAME {
         let byte = padded_byte(given, i);
         if stored[i] != byte {
             return false;
@@ -31,11 +35,4 @@ fn matches_bytes(stored: &[u8], given: &[u8]) -> bool
         i += 1;
     }
     true
-}
-
-// Whether a stored name matches the one that a caller gives: this one is filled with 0x00, and both end at their first 0x00.
-pub fn matches_name(stored: &[u8; 12], given: &[u8]) -> bool
-    ensures { λ r. ⌜ r ≡ matchesName (now (stored .entry)) (now (given .entry)) ⌝ }
-{
-    matches_bytes(stored, given)
 }

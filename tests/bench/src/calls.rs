@@ -6,6 +6,7 @@ use std::hint::black_box;
 #[derive(Clone, Copy)]
 pub enum Call<'a> {
     Check,
+    Find(u8, &'a [u8]),
     Count,
     Read(&'a [u8]),
     Set(&'a [u8], &'a [u8]),
@@ -14,7 +15,7 @@ pub enum Call<'a> {
     Listing,
 }
 
-/// What a call answers: the error code, the offset, and the count or length.
+/// What a call answers: the error code, the offset, and the count, the length or the header's offset.
 #[derive(Clone, Copy, Debug, PartialEq)]
 pub struct Answer {
     pub code: u32,
@@ -32,6 +33,7 @@ impl Call<'_> {
     pub fn library(self, image: &mut [u8], buffer: &mut [u8]) -> Answer {
         let answer = match self {
             Call::Check => nvram::check(image),
+            Call::Find(signature, name) => nvram::find(image, signature, name).map(|p| p.header),
             Call::Count => nvram::count(image),
             Call::Read(name) => nvram::read(image, name, buffer).map(<[u8]>::len),
             Call::Set(name, value) => nvram::set(image, name, value).map(|()| 0),
@@ -57,6 +59,9 @@ impl Call<'_> {
     pub fn reference(self, image: &mut [u8], buffer: &mut [u8]) -> Answer {
         let answer = match self {
             Call::Check => reference::check(image),
+            Call::Find(signature, name) => {
+                reference::find(image, signature, name).map(|p| p.offset)
+            }
             Call::Count => reference::count(image),
             Call::Read(name) => reference::read(image, name, buffer),
             Call::Set(name, value) => reference::set(image, name, value).map(|()| 0),

@@ -72,6 +72,16 @@ fn run_length(value: &[u8]) -> usize {
     }
 }
 
+/// The signature and the name of the last partition.
+pub fn last_partition(image: &[u8]) -> (u8, Vec<u8>) {
+    let (mut at, mut last) = (0, 0);
+    while at < image.len() {
+        last = at;
+        at += usize::from(image[at + 2]) << 12 | usize::from(image[at + 3]) << 4;
+    }
+    (image[last], image[last + 4..last + BLOCK].to_vec())
+}
+
 /// The data area of the first partition with signature 0x70 and name `common`.
 pub fn area(image: &[u8]) -> Option<Range<usize>> {
     let mut at = 0;

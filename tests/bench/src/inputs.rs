@@ -136,10 +136,19 @@ fn many(title: &str, blocks: usize, count: usize, length: usize) -> Input {
 
 /// An image of one-block partitions only.
 fn one_block_partitions() -> Input {
-    let image = (0..65_536_u32)
-        .flat_map(|number| format::header(0xA0, 1, &number.to_be_bytes()))
+    let image = (0..65_536)
+        .flat_map(|number| format::header(0xA0, 1, format!("{number:06}").as_bytes()))
         .collect();
     input(Kind::Partitions, "65,536 one-block partitions", image)
+}
+
+/// An image of one-block partitions that all have the signature of the variables, and names that begin as theirs.
+fn one_signature() -> Input {
+    let image = (0..65_536)
+        .flat_map(|number| format::header(0x70, 1, format!("common{number:06}").as_bytes()))
+        .collect();
+    let title = "65,536 one-block partitions of signature 0x70";
+    input(Kind::Partitions, title, image)
 }
 
 /// An image with one variable that has this value.
@@ -274,6 +283,7 @@ pub fn all(folder: &Path, names: Option<&Path>) -> Result<Vec<Input>, String> {
     inputs.push(of_names("crafted names", &names));
     inputs.push(many("1 MiB, 104,000 variables", 65_536, 104_000, 2));
     inputs.push(one_block_partitions());
+    inputs.push(one_signature());
     inputs.push(one_value(
         "1,000,000 plain bytes in one value",
         &vec![b'x'; 1_000_000],

@@ -65,6 +65,11 @@ impl Bench {
     pub fn input(&self, input: &Input, done: &mut dyn FnMut(&Row)) -> Result<(), String> {
         let limit = (input.kind == Kind::Partitions).then(|| header_limit(&input.image));
         done(&self.row(input, "check", Call::Check, &input.image, limit)?);
+        if matches!(input.kind, Kind::Stored | Kind::Partitions) {
+            let (signature, name) = format::last_partition(&input.image);
+            let call = Call::Find(signature, &name);
+            done(&self.row(input, "find the last", call, &input.image, NO_LIMIT)?);
+        }
         match &input.variables {
             Some(variables) => {
                 self.reading(input, variables, done)?;

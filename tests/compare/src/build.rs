@@ -2,7 +2,7 @@
 
 use crate::rng::Rng;
 use reference::area;
-use reference::header::{header_bytes, padded_name};
+use reference::header::{header_bytes, padded_name, partitions};
 
 /// The signature and name of the partition with the variables.
 pub const COMMON: (u8, &[u8]) = (0x70, b"common");
@@ -211,7 +211,7 @@ pub fn other_part(rng: &mut Rng) -> Part {
         b"commons",
         b"ibm,setupcfg",
         b"linux",
-        b"common\0x",
+        b"comm\0on",
         b"\x20a\x7F",
     ];
     let data = (0..16 * rng.below(4)).map(|_| rng.byte()).collect();
@@ -219,8 +219,44 @@ pub fn other_part(rng: &mut Rng) -> Part {
     Part::new(*rng.pick(&[0x00, 0x51, 0x70, 0x7F, 0xA0, 0xFF]), name, data)
 }
 
-/// An accepted image with random variables in a small area.
+/// Gives the header at an offset another name, and the checksum that is right with it.
+pub fn rename(image: &mut [u8], offset: usize, name: &[u8; 12]) {
+    let blocks = u16::from_be_bytes([image[offset + 2], image[offset + 3]]);
+    let header = header_bytes(image[offset], blocks, name);
+    image[offset..offset + 16].copy_from_slice(&header);
+}
+
+/// The same image with random bytes after the 0x00 of each header's name.
+pub fn with_leftovers(rng: &mut Rng, image: &[u8]) -> Vec<u8> {
+    let mut changed = image.to_vec();
+    for part in partitions(image).expect("an accepted image") {
+        let mut name = part.name;
+        let zero = name.iter().position(|&byte| byte == 0).unwrap_or(11);
+        name[zero + 1..].fill_with(|| rng.byte());
+        rename(&mut changed, part.offset, &name);
+    }
+    changed
+}
+
+/// Puts the headers of an accepted image over another with the same partitions.
+pub fn copy_headers(from: &[u8], to: &mut [u8]) {
+    for part in partitions(from).expect("an accepted image") {
+        let header = part.offset..part.offset + 16;
+        to[header.clone()].copy_from_slice(&from[header]);
+    }
+}
+
+/// An accepted image with random variables in a small area, once in three with leftover bytes in its headers.
 pub fn random_image(rng: &mut Rng, number: usize, longest: usize, spare: usize) -> Vec<u8> {
+    let image = padded_image(rng, number, longest, spare);
+    match rng.once_in(3) {
+        true => with_leftovers(rng, &image),
+        false => image,
+    }
+}
+
+/// An accepted image with random variables in a small area; but for one, its names are padded with 0x00.
+pub fn padded_image(rng: &mut Rng, number: usize, longest: usize, spare: usize) -> Vec<u8> {
     let number = rng.below(number + 1);
     let pairs = pairs(rng, number, longest, 3);
     let area = area(rng, &pairs, spare);

@@ -50,6 +50,16 @@ pub fn header_bytes(signature: u8, blocks: u16, name: &[u8; 12]) -> [u8; BLOCK] 
     bytes
 }
 
+/// Tells whether two names are the same: they agree up to and with the first 0x00 of either, or in all twelve bytes
+/// where neither has one.
+pub fn same_name(left: &[u8; 12], right: &[u8; 12]) -> bool {
+    let first_zero = (0..12).find(|&index| left[index] == 0 || right[index] == 0);
+    match first_zero {
+        Some(index) => left[..=index] == right[..=index],
+        None => left == right,
+    }
+}
+
 /// A caller's partition name with 0x00 up to twelve bytes, or nothing if it is longer.
 pub fn padded_name(name: &[u8]) -> Option<[u8; 12]> {
     let mut padded = [0; 12];

@@ -50,7 +50,7 @@ pub fn find(image: &[u8], signature: u8, name: &[u8]) -> Result<Partition, Refus
     let all = header::partitions(image)?;
     let wanted = header::padded_name(name).ok_or(Refusal::plain(6))?;
     all.into_iter()
-        .find(|p| p.signature == signature && p.name == wanted)
+        .find(|p| p.signature == signature && header::same_name(&p.name, &wanted))
         .ok_or(Refusal::plain(6))
 }
 

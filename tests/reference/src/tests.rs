@@ -1,6 +1,6 @@
-//! The examples 1 to 12 of document 01, and the name rule with the index of the first wrong byte.
+//! The examples 1 to 12 of document 01, the names of partitions, and the name rule with the index of the first wrong byte.
 
-use crate::header::{checksum, header_bytes, padded_name};
+use crate::header::{checksum, header_bytes, padded_name, same_name};
 use crate::model::{self, canonical_area, Call, Model};
 use crate::*;
 
@@ -177,6 +177,55 @@ fn listing_of_the_base_image() {
     image[1] = 0;
     assert_eq!(listing(&image), b"refused 4 at 0\n");
     assert_eq!(listing(&vec![0; 65_537]), b"too long\n");
+}
+
+#[test]
+fn names_of_partitions_end_at_their_zero() {
+    let pairs: [(&[u8; 12], &[u8; 12], bool); 9] = [
+        (&COMMON, b"common\0x\0\0\0\0", true),
+        (b"common\0x\0\0\0\0", b"common\0\0\0\0\0y", true),
+        (b"\0xxxxxxxxxxx", &[0; 12], true),
+        (b"common-log-\0", b"common-log-\0", true),
+        (b"common-log-1", b"common-log-1", true),
+        (b"common-log-1", b"common-log-2", false),
+        (&COMMON, b"common-log-1", false),
+        (&COMMON, b"comm\0on\0\0\0\0\0", false),
+        (&COMMON, b"Common\0\0\0\0\0\0", false),
+    ];
+    for (left, right, wanted) in pairs {
+        assert_eq!(same_name(left, right), wanted);
+        assert_eq!(same_name(right, left), wanted);
+    }
+}
+
+#[test]
+fn partition_is_found_up_to_the_zero_of_its_name() {
+    let leftover = *b"common\0x\0\0\0\0";
+    let mut image = base();
+    image[..16].copy_from_slice(&header_bytes(0x70, 2, &leftover));
+    let names: [(&[u8], bool); 8] = [
+        (b"common", true),
+        (b"common\0", true),
+        (b"common\0y", true),
+        (b"common\0\0\0\0\0\0", true),
+        (b"common\0\0\0\0\0\0\0", false),
+        (b"comm", false),
+        (b"comm\0on", false),
+        (b"", false),
+    ];
+    for (name, there) in names {
+        let wanted = if there { Ok(0) } else { Err(Refusal::plain(6)) };
+        assert_eq!(find(&image, 0x70, name).map(|p| p.offset), wanted);
+    }
+    assert_eq!(count(&image), Ok(1));
+    set(&mut image, b"a", b"2").unwrap();
+    assert_eq!(image[4..16], leftover);
+    let two = [
+        header_bytes(0x70, 1, &leftover),
+        header_bytes(0x70, 1, &COMMON),
+    ]
+    .concat();
+    assert_eq!(find(&two, 0x70, b"common").map(|p| p.offset), Ok(0));
 }
 
 #[test]

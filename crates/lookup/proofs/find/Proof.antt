@@ -14,7 +14,7 @@ use Rattle.partitions.specs.declared.Found.{Found}
 use Rattle.partitions.specs.declared.Found.the-variants.{Refused}
 use Rattle.partitions.specs.Find.{findOf}
 use Rattle.partitions.proofs.WalkLaws.{next-bounds, rest, onWalk, loop-next, loop-end, loop-broken}
-use Rattle.lookup.proofs.SeekLaws.{seekName, name-refused, name-start, seek-signed, seek-other}
+use Rattle.lookup.proofs.SeekLaws.{whole-header, seekName, name-refused, name-start, seek-signed, seek-other}
 use borrow.Author.Needs.{needs}
 use Rattle.lookup.proofs.find.Statement.{statement}
 use Rattle.lookup.proofs.find.Tie as tie
@@ -73,7 +73,11 @@ signature-at-requires : tie.Need-signature-at-requires Inv-loop μ-loop
 signature-at-requires c κs = search needs
 
 first-named-requires : tie.Need-first-named-requires Inv-loop μ-loop
-first-named-requires c κs = search needs
+first-named-requires c κs =
+    let t = c .before .before in
+    let s = t .before .before .before in
+    let g = t .before .step2 .given in
+    whole-header (imageOf s) (s .before .loop .cursor .at) (g .0 .0) (g .0 .1 .0) (sym (s .step .ensures) ∙ g .1)
 
 loop-less : tie.Need-loop-less Inv-loop μ-loop
 loop-less c =

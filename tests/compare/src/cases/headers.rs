@@ -1,4 +1,4 @@
-//! Images, headers, finding of partitions, and listings.
+//! Images, headers, and listings.
 
 use super::every_call;
 use crate::build::{self, Part};
@@ -312,60 +312,6 @@ fn image_of_sum(sum: usize) -> Vec<u8> {
     let mut image = header_bytes(covered[0], blocks, &name).to_vec();
     image.resize(16 * usize::from(blocks), 0);
     image
-}
-
-/// Finding by names and signatures that are nearly the same.
-pub fn finding(ctx: &mut Context) -> Outcome {
-    const NAMES: [&[u8]; 10] = [
-        b"",
-        b"c",
-        b"common",
-        b"commom",
-        b"common\0\0\0\0\0x",
-        b"common\0x",
-        b"wwwwwwwwwwww",
-        b"wwwwwwwwwwwx",
-        b"wwwwwwwwwww",
-        b"Common",
-    ];
-    for round in 0..ctx.amount(2_000) {
-        ctx.recipe = format!("random image {round} of partitions with like names");
-        let mut parts = Vec::new();
-        for _ in 0..ctx.rng.between(1, 7) {
-            let data = vec![0; 16 * ctx.rng.below(3)];
-            let name = *ctx.rng.pick(&NAMES);
-            parts.push(Part::new(*ctx.rng.pick(&[0x70, 0x7F, 0x71]), name, data));
-        }
-        let image = build::image(&parts);
-        let mut twin = Twin::new(&image);
-        for _ in 0..12 {
-            let mut name = ctx.rng.pick(&NAMES).to_vec();
-            if ctx.rng.once_in(2) {
-                name.resize(ctx.rng.between(0, 15), 0);
-            }
-            let signature = *ctx.rng.pick(&[0x70, 0x7F, 0x71, 0x00]);
-            twin.call(ctx, &Request::Find(signature, name.clone()))?;
-            same_data(ctx, &image, signature, &name)?;
-        }
-        for index in [0, 1, 2, 5, 6, 7, usize::MAX, usize::MAX / 16] {
-            twin.call(ctx, &Request::Partition(index))?;
-        }
-        twin.call(ctx, &Request::Count)?;
-    }
-    Ok(())
-}
-
-/// Compares the data range of the wrapper's partition with the reference's.
-fn same_data(ctx: &mut Context, image: &[u8], signature: u8, name: &[u8]) -> Outcome {
-    let found = nvram::find(image, signature, name).ok();
-    let wanted = reference::find(image, signature, name).ok();
-    let ranges = (found.map(|p| p.data()), wanted.map(|p| p.data()));
-    ctx.same("the data range", ranges.0, ranges.1)?;
-    ctx.same(
-        "the wrapper's signature",
-        found.map_or(signature, |p| p.signature),
-        signature,
-    )
 }
 
 /// Listings of odd names into texts that are short, exact and long.

@@ -2,6 +2,7 @@
 
 mod areas;
 mod calls;
+mod finding;
 mod headers;
 mod large;
 mod names;
@@ -30,7 +31,9 @@ pub const CASES: &[Case] = &[
     case("header-faults", headers::header_faults),
     case("checksums", headers::checksums),
     case("plain-sums", headers::plain_sums),
-    case("finding", headers::finding),
+    case("finding", finding::finding),
+    case("partition-names", finding::partition_names),
+    case("leftovers", finding::leftovers),
     case("listings", headers::listings),
     case("small-areas-at-start", areas::small_at_start),
     case("small-areas-at-end", areas::small_at_end),

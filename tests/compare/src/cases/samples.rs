@@ -1,5 +1,6 @@
 //! Images written by real firmware.
 
+use super::finding::as_without;
 use super::read_three_ways;
 use crate::build;
 use crate::context::{Context, Failure, Outcome};
@@ -34,7 +35,7 @@ fn file_bytes(path: &Path) -> Result<Vec<u8>, Failure> {
     fs::read(path).map_err(|error| Failure(format!("  file:      {}: {error}", path.display())))
 }
 
-/// Every question about every sample, then random edits on a copy.
+/// Every question about every sample, the same calls with leftover bytes in its headers, then random edits on a copy.
 pub fn samples(ctx: &mut Context) -> Outcome {
     let Some(folder) = ctx.samples.clone() else {
         return Err(Failure("  folder:    none is given".to_string()));
@@ -50,6 +51,8 @@ pub fn samples(ctx: &mut Context) -> Outcome {
         let list = file_bytes(&path.with_extension("list"))?;
         let text = ask(ctx, &image)?;
         ctx.same("the listing and its file", text, list)?;
+        let leftover = build::with_leftovers(&mut ctx.rng, &image);
+        as_without(ctx, &image, &leftover)?;
         if let Ok(model) = Model::of_image(&image) {
             read_all(ctx, &image, &model)?;
             edit(ctx, &image, model)?;
