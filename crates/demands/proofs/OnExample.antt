@@ -1,4 +1,5 @@
--- The demands applied to the example image E: each premise is discharged, for a request and a list of calls of every kind.
+-- The demands applied to the example image E: each premise is discharged, for a request and a list of calls of every kind; and demand 3
+-- to L, which is E with a leftover byte in the name of `common`.
 use Prim.Native.Nat.{ℕ}
 use mathlib.Core.Path.{_≡_, refl}
 use mathlib.Core.Bool.{Bool, true, _&&_}
@@ -30,6 +31,7 @@ use Rattle.nvram.proofs.CommonLaws.{common-exactly}
 use Rattle.demands.specs.Requests.{Request, variable}
 use Rattle.demands.specs.Model.{runModel, canonicalArea}
 use Rattle.demands.specs.Library.{runImage}
+use Rattle.demands.specs.NameExamples.{L}
 use Rattle.demands.specs.Demands.{RequestBytes, CallsBytes, Demand1, Demand2, Demand3}
 use Rattle.demands.proofs.DemandsLaws.{demands}
 
@@ -75,6 +77,22 @@ example-2 = demands .demand-2 E example-bytes
 -- DEMAND 3 of every list of calls on E
 pub example-3 : (calls : List Call) → CallsBytes calls → Demand3 E 0 held calls
 example-3 calls b = demands .demand-3 E first held calls example-bytes b example-common example-formed
+
+-- DEMAND 3 of every list of calls on L, where a leftover byte stands after the 0x00 of `common`
+leftover-bytes : AllBytes L
+leftover-bytes = tested L refl
+
+leftover-common : HasCommon L first
+unfolding commonOf findOf findBy firstMatch matches matchesName sameName padded
+    walk walkFrom stepAt allowedLength partitionOf pastOf validityAt validityOf headerAt nameAt sumFrom sameBytes
+leftover-common = common-exactly L leftover-bytes first .0 refl
+
+leftover-formed : WellFormed held (areaAt L 0)
+unfolding areaAt blocksAt
+leftover-formed = example-formed
+
+pub example-leftover : (calls : List Call) → CallsBytes calls → Demand3 L 0 held calls
+example-leftover calls b = demands .demand-3 L first held calls leftover-bytes b leftover-common leftover-formed
 
 -- a set, and calls of every kind, lend bytes
 example-set-bytes : RequestBytes (variable (set (0x62 ∷ []) (0x00 ∷ 0xFF ∷ [])))
