@@ -1,8 +1,8 @@
 -- A stored name and the one that a caller gives: what is computed holds exactly when the rule does.
 use Prim.Native.Nat.{ℕ, zero, suc, _-_, _≤_}
-use mathlib.Core.Path.{_≡_, ap, refl, sym, _∙_}
+use mathlib.Core.Path.{_≡_, ap, refl, sym, subst, _∙_}
 use mathlib.Core.Bool.{true, _&&_}
-use mathlib.Core.List.{List, [], _∷_, _++_}
+use mathlib.Core.List.{List, [], _∷_, _++_, append-nil}
 use mathlib.Core.Logic.{_↔_}
 use native.Mathlib.Omega.{arith}
 use lib.ListN.{length, getD, replicate, length-append, length-replicate}
@@ -14,19 +14,23 @@ use Rattle.partition_name.specs.Rules.{SameName, MatchesName, NoLeftover
 use Rattle.partition_name.specs.Name.{sameName, padded, matchesName}
 use Rattle.partition_name.proofs.SameLaws.{same-exactly, same-symmetric, same-transitive, same-no-leftover}
 
--- a name goes on with zeros
-filled-at : (name : List ℕ) (k i : ℕ) → getD (name ++ replicate k 0) i 0 ≡ getD name i 0
-filled-at [] k i = zeros-at k i
-filled-at (x ∷ xs) k zero = refl
-filled-at (x ∷ xs) k (suc i) = filled-at xs k i
+-- past its end a name reads as zeros
+zeros-after : (name : List ℕ) (k i : ℕ) → getD (name ++ replicate k 0) i 0 ≡ getD name i 0
+zeros-after [] k i = zeros-at k i
+zeros-after (x ∷ xs) k zero = refl
+zeros-after (x ∷ xs) k (suc i) = zeros-after xs k i
 
 pub padded-at : (name : List ℕ) (i : ℕ) → getD (padded name) i 0 ≡ getD name i 0
 unfolding padded
-padded-at name i = filled-at name (12 - length name) i
+padded-at name i = zeros-after name (12 - length name) i
 
 pub length-padded : (name : List ℕ) → length name ≤ 12 → length (padded name) ≡ 12
 unfolding padded
 length-padded name h = simp (length-append, length-replicate) (omega arith)
+
+padded-twelve : (name : List ℕ) → length name ≡ 12 → padded name ≡ name
+unfolding padded
+padded-twelve name e = let z : 12 - length name ≡ 0 = omega arith in rw z (append-nil name)
 
 module _ (stored given : List ℕ) where
   -- A MATCH exactly when the rule says so
@@ -44,6 +48,14 @@ module _ (stored given : List ℕ) where
     λ m.
         rw (eq-eqb (length stored) 12 (m .twelve), le-leb (length given) 12 (m .at-most-twelve))
         (same-exactly stored (padded given) .1 (m .same)),
+  )
+
+  -- OF TWELVE BYTES EACH, names match exactly when they are the same
+  pub matches-twelve : length stored ≡ 12 → length given ≡ 12 → MatchesName stored given ↔ SameName stored given
+  unfolding padded
+  matches-twelve s t = (
+    λ m. subst (SameName stored) (padded-twelve given t) (m .same),
+    λ n. record { twelve = s; at-most-twelve = omega arith; same = subst (SameName stored) (sym (padded-twelve given t)) n },
   )
 
   -- STORED NAMES THAT ARE THE SAME match the same names

@@ -6,20 +6,18 @@ use mathlib.Core.Logic.{_≢_, _⊎_}
 use lib.ListN.{length, getD, replicate}
 use Rattle.lists.specs.Bytes.{Every}
 
--- i is the index of the first 0x00 of either name
+-- i is the index of the first 0x00 of either name, and both are longer
 pub record FirstZero (a b : List ℕ) (i : ℕ) : Type 0 where
   pub inside : (i < length a) × (i < length b)
   pub zero : (getD a i 0 ≡ 0x00) ⊎ (getD b i 0 ≡ 0x00)
   pub before : (k : ℕ) → k < i → (getD a k 0 ≢ 0x00) × (getD b k 0 ≢ 0x00)
 
--- two names of twelve bytes are the same: they agree up to and with the first 0x00 of either, or in all twelve where neither has one;
--- (of lists of other lengths, where the first 0x00 stands in both, or as a whole)
+-- two names of twelve bytes are the same: they agree up to and with the first 0x00 of either, or in all twelve where neither has one
 pub data SameName (a b : List ℕ) : Type 0 where
   up-to-zero : {i : ℕ} → FirstZero a b i → ((k : ℕ) → k ≤ i → getD a k 0 ≡ getD b k 0) → SameName a b
   no-zero : Every (λ c. c ≢ 0x00) a → Every (λ c. c ≢ 0x00) b → a ≡ b → SameName a b
 
--- a stored name, of twelve bytes, matches the one that a caller gives, which is padded with 0x00 to twelve (document 01: filled); a longer
--- one matches none
+-- a stored name matches the one that a caller gives, padded with 0x00 to twelve bytes (document 01: filled); a longer one matches none
 pub record MatchesName (stored given : List ℕ) : Type 0 where
   pub twelve : length stored ≡ 12
   pub at-most-twelve : length given ≤ 12
