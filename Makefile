@@ -10,7 +10,7 @@ help:
 	@echo 'make test               prove every crate, try the must-fail edits, run every program and case'
 	@echo 'make lib                prove and write target/staticlib/libnvram_c.a, for C, C++ and Rust to link'
 	@echo 'make install            install header, archive, nvlist, nvram.pc and manual pages (PREFIX, DESTDIR)'
-	@echo 'make bench              time every call beside a plain Rust implementation (needs cargo and cc)'
+	@echo 'make bench              time every call beside a plain Rust implementation (needs cargo, cc and objcopy)'
 	@echo 'make fmt                lay out every source, definition and proof, and the Rust of bindings/ and tests/'
 
 # A word for the shell, whatever it holds.

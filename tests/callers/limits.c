@@ -45,6 +45,10 @@ static void partitions(void)
     want("NVRAM_PARTITION_NAME_MAX + 1",
          nvram_find(image, NVRAM_BLOCK, 0x7F, name, NVRAM_PARTITION_NAME_MAX + 1, &offset, &number, &blocks),
          NVRAM_NO_PARTITION);
+    name = (const uint8_t *)"wwwwwwwwwwww";
+    want("NVRAM_PARTITION_NAME_MAX and an ending 0x00",
+         nvram_find(image, NVRAM_BLOCK, 0x7F, name, NVRAM_PARTITION_NAME_MAX + 1, &offset, &number, &blocks),
+         NVRAM_NO_PARTITION);
 }
 
 /* A listed image's length, and the room for its text. */
@@ -71,11 +75,13 @@ static size_t common_blocks(void)
     return 6 * NVRAM_BLOCK;
 }
 
-/* A partition is found by this name, or not. */
+/* The partition at the second block is found by this name, or none is. */
 static void found(const char *label, const char *name, size_t name_len, uint32_t code)
 {
-    const size_t length = 6 * NVRAM_BLOCK;
+    const size_t length = 7 * NVRAM_BLOCK;
+    number = blocks = NVRAM_IMAGE_MAX;
     want(label, nvram_find(image, length, 0x70, (const uint8_t *)name, name_len, &offset, &number, &blocks), code);
+    want(label, (uint32_t)number, code == NVRAM_DONE ? NVRAM_BLOCK : 0);
     want(label, (uint32_t)blocks, code == NVRAM_DONE ? 6 : 0);
 }
 
@@ -83,8 +89,10 @@ static void found(const char *label, const char *name, size_t name_len, uint32_t
 static void partition_names(void)
 {
     static const uint8_t header[NVRAM_BLOCK + 1] = "\x70\x7A\x00\x06" "common\0\0x\0\0";
-    const size_t length = common_blocks();
-    memcpy(image, header, NVRAM_BLOCK);
+    const size_t length = 7 * NVRAM_BLOCK;
+    free_blocks();
+    memset(image + NVRAM_BLOCK, 0, 6 * NVRAM_BLOCK);
+    memcpy(image + NVRAM_BLOCK, header, NVRAM_BLOCK);
     found("a leftover byte", "common", 6, NVRAM_DONE);
     found("a string with its end", "common", 7, NVRAM_DONE);
     found("a leftover byte in the caller's name", "common\0y", 8, NVRAM_DONE);
@@ -93,9 +101,12 @@ static void partition_names(void)
     found("a beginning", "comm", 4, NVRAM_NO_PARTITION);
     found("a beginning with its end", "comm\0on", 7, NVRAM_NO_PARTITION);
     found("a longer name", "commons", 7, NVRAM_NO_PARTITION);
-    want("variables by a leftover byte", nvram_count(image, length, &offset, &number), NVRAM_DONE);
-    want("a set by a leftover byte", nvram_set(image, length, value, 1, value, 1, &offset), NVRAM_DONE);
-    want("the stored name", memcmp(image, header, NVRAM_BLOCK) == 0, 1);
+    want("a count", nvram_count(image, length, &offset, &number), NVRAM_DONE);
+    want("no variables", (uint32_t)number, 0);
+    want("a set", nvram_set(image, length, value, 1, value, 1, &offset), NVRAM_DONE);
+    want("a count after it", nvram_count(image, length, &offset, &number), NVRAM_DONE);
+    want("one variable", (uint32_t)number, 1);
+    want("the header after it", memcmp(image + NVRAM_BLOCK, header, NVRAM_BLOCK) == 0, 1);
 }
 
 /* A variable's name. */

@@ -110,6 +110,11 @@ pub fn partition(image: &[u8], index: usize) -> Result<Partition, Error> {
 /// let free = nvram::find(&image, 0x7F, &[0x77; 12])?;
 /// assert_eq!((free.header, free.blocks), (0, 1));
 /// assert!(image[free.data()].is_empty());
+///
+/// // Bytes after the 0x00 of a name do not count.
+/// image.copy_from_slice(b"\x70\x75\x00\x01common\0x\0\0\0\0");
+/// assert_eq!(nvram::find(&image, 0x70, b"common")?.header, 0);
+/// assert_eq!(nvram::find(&image, 0x70, b"comm").unwrap_err().code, nvram::Code::NoPartition);
 /// # Ok::<(), nvram::Error>(())
 /// ```
 pub fn find(image: &[u8], signature: u8, name: &[u8]) -> Result<Partition, Error> {

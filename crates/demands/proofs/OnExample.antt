@@ -8,12 +8,11 @@ use mathlib.Core.Logic.{inl, inr}
 use lib.ListN.{length}
 use lib.Dec.{ltb}
 use borrow.Author.Tests.{ltb-true}
-use Rattle.lists.specs.Bytes.{AllBytes, sameBytes, stands}
+use Rattle.lists.specs.Bytes.{AllBytes, stands}
 use Rattle.lists.proofs.Tests.{and-true}
 use Rattle.header.specs.Checksum.{sumFrom}
 use Rattle.header.specs.Header.{headerAt, nameAt, validityOf, validityAt}
 use Rattle.header.specs.Rules.{blocksAt}
-use Rattle.partitions.specs.declared.Partition.{Partition}
 use Rattle.partition_name.specs.Name.{sameName, padded, matchesName}
 use Rattle.partitions.specs.Walk.{allowedLength, partitionOf, pastOf, stepAt, walkFrom, walk}
 use Rattle.partitions.specs.Find.{matches, firstMatch, findBy, findOf}
@@ -31,7 +30,7 @@ use Rattle.nvram.proofs.CommonLaws.{common-exactly}
 use Rattle.demands.specs.Requests.{Request, variable}
 use Rattle.demands.specs.Model.{runModel, canonicalArea}
 use Rattle.demands.specs.Library.{runImage}
-use Rattle.demands.specs.NameExamples.{L}
+use Rattle.demands.specs.NameExamples.{L, first}
 use Rattle.demands.specs.Demands.{RequestBytes, CallsBytes, Demand1, Demand2, Demand3}
 use Rattle.demands.proofs.DemandsLaws.{demands}
 
@@ -49,17 +48,13 @@ tested (b ∷ bs) e =
 example-bytes : AllBytes E
 example-bytes = tested E refl
 
--- `common` is the partition of two blocks at 0
-abbrev first : Partition
-first = record { offset = 0; blocks = record { 0 = 2 }; signature = 0x70 }
-
 -- it holds `a`, whose value is `1`
 abbrev held : List Entry
 held = record { name = 0x61 ∷ []; value = 0x31 ∷ []; size = 4 } ∷ []
 
 example-common : HasCommon E first
 unfolding commonOf findOf findBy firstMatch matches matchesName sameName padded
-    walk walkFrom stepAt allowedLength partitionOf pastOf validityAt validityOf headerAt nameAt sumFrom sameBytes
+    walk walkFrom stepAt allowedLength partitionOf pastOf validityAt validityOf headerAt nameAt sumFrom
 example-common = common-exactly E example-bytes first .0 refl
 
 example-formed : WellFormed held (areaAt E 0)
@@ -84,7 +79,7 @@ leftover-bytes = tested L refl
 
 leftover-common : HasCommon L first
 unfolding commonOf findOf findBy firstMatch matches matchesName sameName padded
-    walk walkFrom stepAt allowedLength partitionOf pastOf validityAt validityOf headerAt nameAt sumFrom sameBytes
+    walk walkFrom stepAt allowedLength partitionOf pastOf validityAt validityOf headerAt nameAt sumFrom
 leftover-common = common-exactly L leftover-bytes first .0 refl
 
 leftover-formed : WellFormed held (areaAt L 0)

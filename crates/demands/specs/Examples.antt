@@ -14,7 +14,7 @@ use Rattle.errors.specs.declared.Error.the-variants.{ImageLength, BadHeader}
 use Rattle.partition_name.specs.Name.{sameName, padded, matchesName}
 use Rattle.partitions.specs.Walk.{allowedLength, partitionOf, pastOf, stepAt, walkFrom, walk}
 use Rattle.partitions.specs.Find.{checkedBy, checkOf, matches, firstMatch, findBy, findOf, areaOf}
-use Rattle.partitions.specs.Examples.{E, commonCovered, freeCovered}
+use Rattle.partitions.specs.Examples.{E, withArea, commonCovered, freeCovered}
 use Rattle.names.specs.declared.NameCheck.the-variants.{Good, Wrong}
 use Rattle.names.specs.Name.{nameByte, nameCheckFrom, nameCheck}
 use Rattle.values.specs.Value.{runByte, run, decodeFrom, decode, mark, fullEscapes, restEscape, runBytes, encodeFrom, encode}
@@ -31,7 +31,7 @@ told code offset amount = record { code = code; offset = offset; amount = amount
 
 -- E with another area of 16 bytes
 abbrev holding : List ℕ → List ℕ
-holding area = take 16 E ++ (area ++ drop 32 E)
+holding = withArea E
 
 -- E after example 6
 abbrev pub six : List ℕ

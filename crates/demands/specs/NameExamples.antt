@@ -2,10 +2,10 @@
 use Prim.Native.Nat.{ℕ}
 use mathlib.Core.Path.{_≡_, refl}
 use mathlib.Core.List.{List, [], _∷_, _++_}
-use lib.ListN.{take, drop, replicate}
+use lib.ListN.{drop, replicate}
 use Rattle.lists.specs.Bytes.{sameBytes, stands}
 use Rattle.lists.specs.Pasted.{pasted}
-use Rattle.header.specs.Checksum.{sumFrom, sumcheck}
+use Rattle.header.specs.Checksum.{sumFrom}
 use Rattle.header.specs.Header.{headerAt, nameAt, validityOf, validityAt}
 use Rattle.partitions.specs.declared.Partition.{Partition}
 use Rattle.partitions.specs.declared.Checked.the-variants.{Accepted, Refused}
@@ -13,9 +13,10 @@ use Rattle.partitions.specs.declared.Found.the-variants as Found
 use Rattle.errors.specs.declared.HeaderFault.the-variants.{Checksum}
 use Rattle.errors.specs.declared.Error.the-variants.{BadHeader, NoPartition}
 use Rattle.partition_name.specs.Name.{sameName, padded, matchesName}
+use Rattle.partition_name.specs.Examples.{leftover, twelveBytes}
 use Rattle.partitions.specs.Walk.{allowedLength, partitionOf, pastOf, stepAt, walkFrom, walk}
 use Rattle.partitions.specs.Find.{checkedBy, checkOf, matches, firstMatch, findBy, findOf, areaOf}
-use Rattle.partitions.specs.Examples.{E}
+use Rattle.partitions.specs.Examples.{E, withArea}
 use Rattle.names.specs.Name.{nameByte, nameCheckFrom, nameCheck}
 use Rattle.values.specs.Value.{runByte, run, decodeFrom, decode, mark, fullEscapes, restEscape, runBytes, encodeFrom, encode}
 use Rattle.pairs.specs.Scan.{storedName, scanName, scanValue, standAt}
@@ -30,28 +31,31 @@ use Rattle.demands.specs.Examples.{told}
 abbrev renamed : ℕ → List ℕ → List ℕ
 renamed checksum name = 0x70 ∷ checksum ∷ 0x00 ∷ 0x02 ∷ (name ++ drop 16 E)
 
--- `common`, its 0x00, and a leftover byte
-abbrev leftover : List ℕ
-leftover = 0x63 ∷ 0x6F ∷ 0x6D ∷ 0x6D ∷ 0x6F ∷ 0x6E ∷ 0x00 ∷ 0x78 ∷ 0x00 ∷ 0x00 ∷ 0x00 ∷ 0x00 ∷ []
-
--- the image L: E with that name
+-- the image L: E with `common`, its 0x00 and a leftover byte as that name
 abbrev pub L : List ℕ
 L = renamed 0x76 leftover
 
--- L with another area of 16 bytes
+-- L with another area
 abbrev holding : List ℕ → List ℕ
-holding area = take 16 L ++ (area ++ drop 32 L)
+holding = withArea L
 
--- the partition of two blocks at 0
-abbrev first : Partition
+-- the partition of two blocks at 0, and that of one block
+abbrev pub first : Partition
 first = record { offset = 0; blocks = record { 0 = 2 }; signature = 0x70 }
 
--- two partitions of one block, `common` with a leftover byte and without
-abbrev blockLeftover : List ℕ
-blockLeftover = 0x70 ∷ 0x75 ∷ 0x00 ∷ 0x01 ∷ leftover
+abbrev block : Partition
+block = record { offset = 0; blocks = record { 0 = 1 }; signature = 0x70 }
 
-abbrev blockPadded : List ℕ
-blockPadded = 0x70 ∷ 0xFC ∷ 0x00 ∷ 0x01 ∷ (common ++ replicate 6 0x00)
+-- headers of one block, `common` with a leftover byte and without
+abbrev leftoverBlock : List ℕ
+leftoverBlock = 0x70 ∷ 0x75 ∷ 0x00 ∷ 0x01 ∷ leftover
+
+abbrev paddedBlock : List ℕ
+paddedBlock = 0x70 ∷ 0xFC ∷ 0x00 ∷ 0x01 ∷ (common ++ replicate 6 0x00)
+
+-- `comm`, 0x00, `on`
+abbrev beginningOnly : List ℕ
+beginningOnly = 0x63 ∷ 0x6F ∷ 0x6D ∷ 0x6D ∷ 0x00 ∷ 0x6F ∷ 0x6E ∷ replicate 5 0x00
 
 pub record LeftoverNames : Type 0 where
   -- the checksum covers all twelve bytes: that of E no longer agrees
@@ -63,8 +67,8 @@ pub record LeftoverNames : Type 0 where
   pub thirteen : findOf L 0x70 (common ++ replicate 7 0x00) ≡ Found.Refused NoPartition
   pub area : areaOf L (findOf L 0x70 common) ≡ 0x61 ∷ 0x3D ∷ 0x31 ∷ 0x00 ∷ replicate 12 0x00
   -- of two whose names are the same, the first
-  pub leftover-first : findOf (blockLeftover ++ blockPadded) 0x70 common ≡ Found.At (record { offset = 0; blocks = record { 0 = 1 }; signature = 0x70 })
-  pub padded-first : findOf (blockPadded ++ blockLeftover) 0x70 common ≡ Found.At (record { offset = 0; blocks = record { 0 = 1 }; signature = 0x70 })
+  pub leftover-first : findOf (leftoverBlock ++ paddedBlock) 0x70 common ≡ Found.At block
+  pub padded-first : findOf (paddedBlock ++ leftoverBlock) 0x70 common ≡ Found.At block
   -- the calls on variables go by it, and leave every byte of the header
   pub counted : callImage count L ≡ record { told = told 0 0 1; image = L }
   pub reads : callImage (read (0x61 ∷ []) (0x05 ∷ 0x05 ∷ [])) L
@@ -74,9 +78,9 @@ pub record LeftoverNames : Type 0 where
   pub removes : callImage (remove (0x61 ∷ [])) L ≡ record { told = told 0 0 0; image = holding (replicate 16 0x00) }
   pub normalizes : callImage normalize (holding (0x61 ∷ 0x3D ∷ 0xFF ∷ 0x01 ∷ 0xFF ∷ 0x01 ∷ 0x00 ∷ 0x00 ∷ replicate 8 0xAA))
       ≡ record { told = told 0 0 0; image = holding (0x61 ∷ 0x3D ∷ 0xFF ∷ 0x02 ∷ replicate 12 0x00) }
-  -- `comm`, 0x00, `on`; and twelve bytes that begin with `common`
-  pub beginning : callImage count (renamed 0xFD (0x63 ∷ 0x6F ∷ 0x6D ∷ 0x6D ∷ 0x00 ∷ 0x6F ∷ 0x6E ∷ replicate 5 0x00)) .told ≡ told 6 0 0
-  pub longer : callImage count (renamed 0xCC (common ++ 0x2D ∷ 0x6C ∷ 0x6F ∷ 0x67 ∷ 0x2D ∷ 0x31 ∷ [])) .told ≡ told 6 0 0
+  -- a name that ends before `common` does, and one that goes on after it
+  pub beginning : callImage count (renamed 0xFD beginningOnly) .told ≡ told 6 0 0
+  pub longer : callImage count (renamed 0xCC twelveBytes) .told ≡ told 6 0 0
 
 -- they hold, by computing
 pub leftover-names : LeftoverNames

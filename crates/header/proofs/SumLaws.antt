@@ -36,6 +36,7 @@ name-part image at h =
     let n : at + 16 - (at + 4) ≡ 12 = omega arith in
     (λ i. take (n i) (drop (at + 4) image)) ∙ part-bytes image at 4 12 (omega arith)
 
+-- their plain sum
 pub name-sum : (image : List ℕ) (at : ℕ) → at + 16 ≤ length image → sum (take (at + 16 - (at + 4)) (drop (at + 4) image)) ≡ sum (nameAt image at)
 name-sum image at h = ap sum (name-part image at h)
 

@@ -70,6 +70,8 @@ impl Header {
     pub const BLOCK: usize = 16;
     // The bytes of a header.
     pub const SIZE: usize = 16;
+    // Where the name stands in a header.
+    pub const NAME_OFFSET: usize = 4;
     // The greatest length in blocks.
     pub const MAX_LENGTH: u32 = 65535;
 
@@ -324,7 +326,7 @@ fn checksum_at(image: &[u8], at: usize) -> u8
     requires { ⌜ at + 16 ≤ len (now image) ⌝ }
     ensures { λ r. ⌜ r ≡ sumcheck (coveredBytes (headerAt (now (image .entry)) at)) ⌝ }
 {
-    let start = at + 4;
+    let start = at + Header::NAME_OFFSET;
     let end = at + Header::SIZE;
     let name = sum_bytes(&image[start..end]);
     let length = Header::length_at(image, at);

@@ -11,7 +11,7 @@ use lib.ListN.{length, getD, take, drop}
 use lib.Seq.{drop-cons}
 use borrow.Author.Tests.{eqb-true, eq-eqb}
 use Rattle.lists.specs.Bytes.{Every, AllBytes, sameBytes}
-use Rattle.lists.proofs.Tests.{split, clash, and-true, and-false}
+use Rattle.lists.proofs.Tests.{split, clash, and-true}
 
 pub same-refl : (xs : List ℕ) → sameBytes xs xs ≡ true
 unfolding sameBytes
@@ -32,13 +32,6 @@ same-false xs ys d = split (sameBytes xs ys) (λ t. absurd (d (same-true xs ys t
 
 pub same-not : (xs ys : List ℕ) → sameBytes xs ys ≡ false → xs ≢ ys
 same-not xs ys e q = clash (cc (same-refl ys))
-
-pub same-longer : (xs ys : List ℕ) → length xs < length ys → sameBytes xs ys ≡ false
-unfolding sameBytes
-same-longer [] [] h = absurd (omega arith)
-same-longer [] (y ∷ ys) h = refl
-same-longer (x ∷ xs) [] h = refl
-same-longer (x ∷ xs) (y ∷ ys) h = rw (same-longer xs ys (omega arith)) (and-false (eqb x y))
 
 -- one comparison and the rest
 pub same-step : (xs ys : List ℕ) (i : ℕ) → i < length xs → i < length ys

@@ -14,15 +14,12 @@ use partitions::Found;
 use partitions::Partition;
 use partitions::Step;
 
-// Where the name stands in a header.
-const NAME: usize = 4;
-
 // Whether the name of a whole header at an offset matches this one; it is compared where it stands.
 fn has_name(image: &[u8], at: usize, name: &[u8]) -> bool
     requires { ⌜ at + 16 ≤ len (now image) ⌝ }
     ensures { λ r. ⌜ r ≡ matchesName (headerAt (now (image .entry)) at .name) (now (name .entry)) ⌝ }
 {
-    let start = at + NAME;
+    let start = at + Header::NAME_OFFSET;
     let end = at + Header::SIZE;
     partition_name::matches_name(&image[start..end], name)
 }

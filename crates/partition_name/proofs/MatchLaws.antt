@@ -1,18 +1,18 @@
 -- A stored name and the one that a caller gives: what is computed holds exactly when the rule does.
 use Prim.Native.Nat.{ℕ, zero, suc, _-_, _≤_}
 use mathlib.Core.Path.{_≡_, ap, refl, sym, subst, _∙_}
-use mathlib.Core.Bool.{true, _&&_}
+use mathlib.Core.Bool.{true}
 use mathlib.Core.List.{List, [], _∷_, _++_, append-nil}
 use mathlib.Core.Logic.{_↔_}
 use native.Mathlib.Omega.{arith}
 use lib.ListN.{length, getD, replicate, length-append, length-replicate}
 use lib.Dec.{leb, eqb}
 use borrow.Author.Tests.{eqb-true, eq-eqb, leb-true, le-leb}
-use Rattle.lists.proofs.Tests.{and-true}
+use Rattle.lists.proofs.Tests.{split, clash}
 use Rattle.lists.proofs.ListLaws.{zeros-at}
 use Rattle.partition_name.specs.Rules.{SameName, MatchesName, NoLeftover}
 use Rattle.partition_name.specs.Name.{sameName, padded, matchesName}
-use Rattle.partition_name.proofs.SameLaws.{same-exactly, same-symmetric, same-transitive, same-no-leftover}
+use Rattle.partition_name.proofs.SameLaws.{same-exactly, same-reflexive, same-symmetric, same-transitive, same-no-leftover}
 
 -- past its end a name reads as zeros
 zeros-after : (name : List ℕ) (k i : ℕ) → getD (name ++ replicate k 0) i 0 ≡ getD name i 0
@@ -32,21 +32,28 @@ padded-twelve : (name : List ℕ) → length name ≡ 12 → padded name ≡ nam
 unfolding padded
 padded-twelve name e = let z : 12 - length name ≡ 0 = omega arith in rw z (append-nil name)
 
+-- A NAME THAT IS STORED PADDED matches
+pub matches-padded : (given : List ℕ) → length given ≤ 12 → MatchesName (padded given) given
+unfolding padded
+matches-padded given h = record { twelve = length-padded given h; at-most-twelve = h; same = same-reflexive (padded given) }
+
 module _ (stored given : List ℕ) where
   -- A MATCH exactly when the rule says so
   pub matches-exactly : (matchesName stored given ≡ true) ↔ MatchesName stored given
   unfolding matchesName padded
   matches-exactly = (
     λ e.
-        let n = and-true (eqb (length stored) 12) (leb (length given) 12 && sameName stored (padded given)) e in
-        let t = and-true (leb (length given) 12) (sameName stored (padded given)) (n .1) in
-        record {
-          twelve = eqb-true (length stored) 12 (n .0);
-          at-most-twelve = omega (arith, leb-true (length given) 12 (t .0));
-          same = same-exactly stored (padded given) .0 (t .1);
-        },
+        split (eqb (length stored) 12)
+        (λ n. split (leb (length given) 12)
+        (λ t. record {
+          twelve = eqb-true (length stored) 12 n;
+          at-most-twelve = omega (arith, leb-true (length given) 12 t);
+          same = same-exactly stored (padded given) .0 (simp (n, t) at e);
+        })
+        (λ t. clash (cc (simp (n, t) at e))))
+        (λ n. clash (cc (simp n at e))),
     λ m.
-        rw (eq-eqb (length stored) 12 (m .twelve), le-leb (length given) 12 (m .at-most-twelve))
+        simp (eq-eqb (length stored) 12 (m .twelve), le-leb (length given) 12 (m .at-most-twelve))
         (same-exactly stored (padded given) .1 (m .same)),
   )
 

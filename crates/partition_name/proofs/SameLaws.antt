@@ -11,7 +11,7 @@ use lib.Seq.{ext-getD}
 use lib.Dec.{eqb}
 use borrow.Author.Tests.{eqb-true, eqb-false, eq-eqb}
 use Rattle.lists.proofs.Tests.{split, clash, and-true}
-use Rattle.partition_name.specs.Rules.{FirstZero, SameName, up-to-zero, no-zero, NoLeftover}
+use Rattle.partition_name.specs.Rules.{SameName, up-to-zero, no-zero, NoLeftover}
 use Rattle.partition_name.specs.Name.{sameName}
 
 -- one byte more in front of both names
@@ -70,11 +70,11 @@ there (x ∷ xs) (y ∷ ys) e = go (there xs ys)
   where
     go : (sameName xs ys ≡ true → SameName xs ys) → SameName (x ∷ xs) (y ∷ ys)
     go ih =
-        let t = and-true (eqb x y) (eqb x 0 || sameName xs ys) e in
-        let q = eqb-true x y (t .0) in
-        split (eqb x 0)
-        (λ z. same-zero x y xs ys q (eqb-true x 0 z))
-        (λ z. same-more x y xs ys q (eqb-false x 0 z) (ih (rw z at (t .1))))
+        split (eqb x y)
+        (λ q. split (eqb x 0)
+        (λ z. same-zero x y xs ys (eqb-true x y q) (eqb-true x 0 z))
+        (λ z. same-more x y xs ys (eqb-true x y q) (eqb-false x 0 z) (ih (simp (q, z) at e))))
+        (λ q. clash (cc (simp q at e)))
 
 back : (a b : List ℕ) → SameName a b → sameName a b ≡ true
 unfolding sameName
@@ -89,8 +89,8 @@ back (x ∷ xs) (y ∷ ys) s = go (back xs ys)
     go ih =
         let q = eq-eqb x y (same-head x y xs ys s) in
         split (eqb x 0)
-        (λ z. rw (q, z))
-        (λ z. rw (q, z) (ih (same-tail x y xs ys (eqb-false x 0 z) s)))
+        (λ z. simp (q, z))
+        (λ z. simp (q, z) (ih (same-tail x y xs ys (eqb-false x 0 z) s)))
 
 -- THE SAME exactly when the rule says so
 pub same-exactly : (a b : List ℕ) → (sameName a b ≡ true) ↔ SameName a b
@@ -103,7 +103,7 @@ same-reflexive a = there a a (go a)
   where
     go : (l : List ℕ) → sameName l l ≡ true
     go [] = refl
-    go (x ∷ xs) = split (eqb x 0) (λ z. rw (eq-eqb x x refl, z)) (λ z. rw (eq-eqb x x refl, z) (go xs))
+    go (x ∷ xs) = split (eqb x 0) (λ z. simp (eq-eqb x x refl, z)) (λ z. simp (eq-eqb x x refl, z) (go xs))
 
 pub same-symmetric : (a b : List ℕ) → SameName a b → SameName b a
 same-symmetric a b (no-zero p q e) = no-zero q p (sym e)

@@ -18,14 +18,14 @@ comm = 0x63 ∷ 0x6F ∷ 0x6D ∷ 0x6D ∷ []
 abbrev zeroPadded : List ℕ
 zeroPadded = common ++ replicate 6 0x00
 
-abbrev leftover : List ℕ
+abbrev pub leftover : List ℕ
 leftover = common ++ 0x00 ∷ 0x78 ∷ replicate 4 0x00
 
 abbrev leftoverLast : List ℕ
 leftoverLast = common ++ replicate 5 0x00 ++ 0x79 ∷ []
 
 -- `common-log-1` and `common-log-2`, twelve bytes
-abbrev twelveBytes : List ℕ
+abbrev pub twelveBytes : List ℕ
 twelveBytes = common ++ 0x2D ∷ 0x6C ∷ 0x6F ∷ 0x67 ∷ 0x2D ∷ 0x31 ∷ []
 
 abbrev otherLast : List ℕ

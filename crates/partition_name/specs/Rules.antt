@@ -6,7 +6,7 @@ use mathlib.Core.Logic.{_≢_, _⊎_}
 use lib.ListN.{length, getD, replicate}
 use Rattle.lists.specs.Bytes.{Every}
 
--- i is the index of the first 0x00 of either name, and both are longer
+-- i is the index of the first 0x00 of either name, and both have a byte there
 pub record FirstZero (a b : List ℕ) (i : ℕ) : Type 0 where
   pub inside : (i < length a) × (i < length b)
   pub zero : (getD a i 0 ≡ 0x00) ⊎ (getD b i 0 ≡ 0x00)

@@ -1,6 +1,7 @@
--- The bytes of document 01's examples: the base image E, and the covered bytes of a header.
+-- The bytes of document 01's examples: the base image E, with other areas too, and the covered bytes of a header.
 use Prim.Native.Nat.{ℕ}
-use mathlib.Core.List.{List, [], _∷_}
+use mathlib.Core.List.{List, [], _∷_, _++_}
+use lib.ListN.{take, drop}
 
 -- the base image E
 abbrev pub E : List ℕ
@@ -8,6 +9,10 @@ E =
     0x70 ∷ 0xFD ∷ 0x00 ∷ 0x02 ∷ 0x63 ∷ 0x6F ∷ 0x6D ∷ 0x6D ∷ 0x6F ∷ 0x6E ∷ 0x00 ∷ 0x00 ∷ 0x00 ∷ 0x00 ∷ 0x00 ∷ 0x00
     ∷ 0x61 ∷ 0x3D ∷ 0x31 ∷ 0x00 ∷ 0x00 ∷ 0x00 ∷ 0x00 ∷ 0x00 ∷ 0x00 ∷ 0x00 ∷ 0x00 ∷ 0x00 ∷ 0x00 ∷ 0x00 ∷ 0x00 ∷ 0x00
     ∷ 0x7F ∷ 0x1A ∷ 0x00 ∷ 0x01 ∷ 0x77 ∷ 0x77 ∷ 0x77 ∷ 0x77 ∷ 0x77 ∷ 0x77 ∷ 0x77 ∷ 0x77 ∷ 0x77 ∷ 0x77 ∷ 0x77 ∷ 0x77 ∷ []
+
+-- an image that begins as E does, with another area of 16 bytes
+abbrev pub withArea : List ℕ → List ℕ → List ℕ
+withArea image area = take 16 image ++ (area ++ drop 32 image)
 
 -- the 15 covered bytes of signature 70 and name `common`, by the low byte of the length
 abbrev pub commonCovered : ℕ → List ℕ

@@ -87,7 +87,7 @@ pub fn area(image: &[u8]) -> Option<Range<usize>> {
     let mut at = 0;
     while at < image.len() {
         let bytes = usize::from(image[at + 2]) << 12 | usize::from(image[at + 3]) << 4;
-        if image[at] == 0x70 && &image[at + 4..at + BLOCK] == b"common\0\0\0\0\0\0" {
+        if image[at] == 0x70 && image[at + 4..at + BLOCK].starts_with(b"common\0") {
             return Some(at + BLOCK..at + bytes);
         }
         at += bytes;

@@ -142,11 +142,11 @@ fn one_block_partitions() -> Input {
     input(Kind::Partitions, "65,536 one-block partitions", image)
 }
 
-/// An image of one-block partitions that all have the signature of the variables, and names that begin as theirs.
+/// An image of one-block partitions that all have the signature of the variables, and names that begin with `common`; the
+/// last name differs from the others in its last byte.
 fn one_signature() -> Input {
-    let image = (0..65_536)
-        .flat_map(|number| format::header(0x70, 1, format!("common{number:06}").as_bytes()))
-        .collect();
+    let mut image = format::header(0x70, 1, b"common-log-1").repeat(65_535);
+    image.extend(format::header(0x70, 1, b"common-log-2"));
     let title = "65,536 one-block partitions of signature 0x70";
     input(Kind::Partitions, title, image)
 }

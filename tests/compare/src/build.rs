@@ -255,7 +255,7 @@ pub fn random_image(rng: &mut Rng, number: usize, longest: usize, spare: usize) 
     }
 }
 
-/// An accepted image with random variables in a small area; but for one, its names are padded with 0x00.
+/// An accepted image with random variables in a small area; but for `comm`, 0x00, `on` its names are padded with 0x00.
 pub fn padded_image(rng: &mut Rng, number: usize, longest: usize, spare: usize) -> Vec<u8> {
     let number = rng.below(number + 1);
     let pairs = pairs(rng, number, longest, 3);

@@ -185,7 +185,7 @@ fn names_of_partitions_end_at_their_zero() {
         (&COMMON, b"common\0x\0\0\0\0", true),
         (b"common\0x\0\0\0\0", b"common\0\0\0\0\0y", true),
         (b"\0xxxxxxxxxxx", &[0; 12], true),
-        (b"common-log-\0", b"common-log-\0", true),
+        (b"common-log-\0", b"common-log-1", false),
         (b"common-log-1", b"common-log-1", true),
         (b"common-log-1", b"common-log-2", false),
         (&COMMON, b"common-log-1", false),

@@ -72,15 +72,16 @@ fn same_data(ctx: &mut Context, image: &[u8], signature: u8, name: &[u8]) -> Out
 /// Stored names of every length with leftover bytes at each index after their 0x00, sought by names of 0 to 14 bytes.
 pub fn partition_names(ctx: &mut Context) -> Outcome {
     let mut twin = Twin::new(&[]);
+    let given_names = given_names();
     for length in 0..=NAME {
         for stored in stored_names(&WHOLE[..length]) {
             ctx.recipe = format!("a stored name {stored:02x?}");
             let parts = [Part::free(2), named(0x71, stored), named(0x70, stored)];
             twin.load(&build::image(&parts));
-            for (given, ends) in given_names() {
+            for (given, ends) in &given_names {
                 let there = ends.is_some_and(|end| end == &WHOLE[..length]);
                 let wanted = if there { (0, 64, 2) } else { (6, 0, 0) };
-                let reply = twin.call(ctx, &Request::Find(0x70, given))?;
+                let reply = twin.call(ctx, &Request::Find(0x70, given.clone()))?;
                 ctx.same("the partition that is found", found(&reply), wanted)?;
             }
         }
@@ -99,7 +100,7 @@ fn found(reply: &Reply) -> (u32, usize, usize) {
 }
 
 /// The twelve stored bytes of a name: with zeros after it, with one leftover byte at each index after its 0x00, and with
-/// leftover bytes at all of them.
+/// leftover bytes from each such index on.
 fn stored_names(name: &[u8]) -> Vec<[u8; NAME]> {
     let mut padded = [0; NAME];
     padded[..name.len()].copy_from_slice(name);
@@ -147,12 +148,19 @@ fn first_of_two(ctx: &mut Context) -> Outcome {
     for left in names {
         for right in names {
             ctx.recipe = format!("two partitions, {left:02x?} and {right:02x?}");
-            let parts = [Part::free(1), named(0x70, left), named(0x70, right)];
+            let [first, second] = [b"a=1\0b=2\0", b"a=3\0c=4\0"];
+            let parts = [
+                Part::free(1),
+                Part::new(0x70, &left, build::padded(first, 16, 0)),
+                Part::new(0x70, &right, build::padded(second, 16, 0)),
+            ];
             let mut twin = Twin::new(&build::image(&parts));
             for given in [b"common".to_vec(), left.to_vec(), right.to_vec()] {
                 let reply = twin.call(ctx, &Request::Find(0x70, given))?;
                 ctx.same("the first of two", found(&reply), (0, 16, 2))?;
             }
+            let reply = twin.call(ctx, &Request::Read(b"a".to_vec(), vec![0; 1]))?;
+            ctx.same("a variable of the first", reply.buffer, b"1".to_vec())?;
         }
     }
     Ok(())
