@@ -35,7 +35,7 @@ padded-twelve name e = let z : 12 - length name ≡ 0 = omega arith in rw z (app
 -- A NAME THAT IS STORED PADDED matches
 pub matches-padded : (given : List ℕ) → length given ≤ 12 → MatchesName (padded given) given
 unfolding padded
-matches-padded given h = record { twelve = length-padded given h; at-most-twelve = h; same = same-reflexive (padded given) }
+matches-padded given h = record { twelve = length-padded given h; at-most-twelve = omega arith; same = same-reflexive (padded given) }
 
 module _ (stored given : List ℕ) where
   -- A MATCH exactly when the rule says so

@@ -1,7 +1,7 @@
 -- When two names are the same: what is computed holds exactly when the rule does, and the rule is an equivalence.
 use Prim.Native.Nat.{ℕ, zero, suc, _≤_, _<_}
-use mathlib.Core.Path.{_≡_, refl, sym, _∙_}
-use mathlib.Core.Bool.{true, false, _||_}
+use mathlib.Core.Path.{_≡_, ap, refl, sym, _∙_}
+use mathlib.Core.Bool.{true, false}
 use mathlib.Core.List.{List, [], _∷_, _++_}
 use mathlib.Core.Logic.{_≢_, _⊎_, inl, inr, _↔_}
 use native.Mathlib.Omega.{arith}
@@ -10,7 +10,7 @@ use lib.ListN.{length, getD}
 use lib.Seq.{ext-getD}
 use lib.Dec.{eqb}
 use borrow.Author.Tests.{eqb-true, eqb-false, eq-eqb}
-use Rattle.lists.proofs.Tests.{split, clash, and-true}
+use Rattle.lists.proofs.Tests.{split, clash}
 use Rattle.partition_name.specs.Rules.{SameName, up-to-zero, no-zero, NoLeftover}
 use Rattle.partition_name.specs.Name.{sameName}
 
@@ -61,6 +61,10 @@ module _ (x y : ℕ) (xs ys : List ℕ) where
       agree zero h = e
       agree (suc k) h = t k (omega arith)
 
+first-agrees : (x y : ℕ) (xs ys : List ℕ) → sameName (x ∷ xs) (y ∷ ys) ≡ true → x ≡ y
+unfolding sameName
+first-agrees x y xs ys e = split (eqb x y) (λ q. eqb-true x y q) (λ q. clash (cc (simp q at e)))
+
 there : (a b : List ℕ) → sameName a b ≡ true → SameName a b
 unfolding sameName
 there [] [] e = no-zero tt tt refl
@@ -70,11 +74,10 @@ there (x ∷ xs) (y ∷ ys) e = go (there xs ys)
   where
     go : (sameName xs ys ≡ true → SameName xs ys) → SameName (x ∷ xs) (y ∷ ys)
     go ih =
-        split (eqb x y)
-        (λ q. split (eqb x 0)
-        (λ z. same-zero x y xs ys (eqb-true x y q) (eqb-true x 0 z))
-        (λ z. same-more x y xs ys (eqb-true x y q) (eqb-false x 0 z) (ih (simp (q, z) at e))))
-        (λ q. clash (cc (simp q at e)))
+        let q = first-agrees x y xs ys e in
+        split (eqb x 0)
+        (λ z. same-zero x y xs ys q (eqb-true x 0 z))
+        (λ z. same-more x y xs ys q (eqb-false x 0 z) (ih (simp (eq-eqb x y q, z) at e)))
 
 back : (a b : List ℕ) → SameName a b → sameName a b ≡ true
 unfolding sameName
@@ -133,13 +136,12 @@ same-transitive a b c s t = there a c (go a b c (back a b s) (back b c t))
       where
         step : (sameName xs ys ≡ true → sameName ys zs ≡ true → sameName xs zs ≡ true) → sameName (x ∷ xs) (z ∷ zs) ≡ true
         step ih =
-            let p = and-true (eqb x y) (eqb x 0 || sameName xs ys) e in
-            let q = and-true (eqb y z) (eqb y 0 || sameName ys zs) f in
-            let xy = eqb-true x y (p .0) in
-            let xz = eq-eqb x z (xy ∙ eqb-true y z (q .0)) in
+            let xy = first-agrees x y xs ys e in
+            let yz = first-agrees y z ys zs f in
+            let xz = eq-eqb x z (xy ∙ yz) in
             split (eqb x 0)
-            (λ o. rw (xz, o))
-            (λ o. rw (xz, o) (ih (rw o at (p .1)) (rw (← xy, o) at (q .1))))
+            (λ o. simp (xz, o))
+            (λ o. simp (xz, o) (ih (simp (eq-eqb x y xy, o) at e) (simp (eq-eqb y z yz, ap (λ (k : ℕ). eqb k 0) (sym xy) ∙ o) at f)))
 
 -- WHAT STANDS AFTER A 0x00 does not count, whatever stands before it
 pub after-zero : (before s t : List ℕ) → SameName (before ++ 0x00 ∷ s) (before ++ 0x00 ∷ t)
