@@ -14,6 +14,7 @@ use Rattle.header.specs.Checksum.{sumFrom}
 use Rattle.header.specs.Header.{headerAt, nameAt, validityOf, validityAt}
 use Rattle.header.specs.Rules.{blocksAt}
 use Rattle.partition_name.specs.Name.{sameName, padded, matchesName}
+use Rattle.partitions.specs.declared.Found.the-variants.{At}
 use Rattle.partitions.specs.Walk.{allowedLength, partitionOf, pastOf, stepAt, walkFrom, walk}
 use Rattle.partitions.specs.Find.{matches, firstMatch, findBy, findOf}
 use Rattle.partitions.specs.Cover.{areaAt}
@@ -48,14 +49,18 @@ tested (b ∷ bs) e =
 example-bytes : AllBytes E
 example-bytes = tested E refl
 
--- it holds `a`, whose value is `1`
+-- what `common` holds on E, and on L: `a`, whose value is `1`
 abbrev held : List Entry
 held = record { name = 0x61 ∷ []; value = 0x31 ∷ []; size = 4 } ∷ []
 
-example-common : HasCommon E first
+-- and it is the partition of two blocks at 0
+found : (commonOf E ≡ At first) × (commonOf L ≡ At first)
 unfolding commonOf findOf findBy firstMatch matches matchesName sameName padded
     walk walkFrom stepAt allowedLength partitionOf pastOf validityAt validityOf headerAt nameAt sumFrom
-example-common = common-exactly E example-bytes first .0 refl
+found = (refl, refl)
+
+example-common : HasCommon E first
+example-common = common-exactly E example-bytes first .0 (found .0)
 
 example-formed : WellFormed held (areaAt E 0)
 unfolding areaAt blocksAt parse parseFrom standAt storedName scanName scanValue nameCheck nameCheckFrom stands nameByte decode decodeFrom run runByte pairBytes
@@ -78,9 +83,7 @@ leftover-bytes : AllBytes L
 leftover-bytes = tested L refl
 
 leftover-common : HasCommon L first
-unfolding commonOf findOf findBy firstMatch matches matchesName sameName padded
-    walk walkFrom stepAt allowedLength partitionOf pastOf validityAt validityOf headerAt nameAt sumFrom
-leftover-common = common-exactly L leftover-bytes first .0 refl
+leftover-common = common-exactly L leftover-bytes first .0 (found .1)
 
 leftover-formed : WellFormed held (areaAt L 0)
 unfolding areaAt blocksAt

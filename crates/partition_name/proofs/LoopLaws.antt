@@ -27,7 +27,7 @@ module _ (stored given : List ℕ) where
   unfolding matchesName
   too-long t h = rw (eq-eqb (length stored) 12 t, lt-leb (length given) 12 h)
 
-  -- the bytes before i agree, and none of them is 0x00
+  -- the names match exactly when their bytes from i on are the same: those before i agree, and none of them is 0x00
   pub record Agree (i : ℕ) : Type 0 where
     pub twelve : length stored ≡ 12
     pub short : length given ≤ 12

@@ -1,7 +1,7 @@
 -- `lookup::find` meets its contract. The loop's invariant: what the turns so far make of the partitions left is the answer.
 use Prim.Native.Nat.{ℕ, _-_, _<_, _≤_}
 use mathlib.Core.Path.{_≡_, sym, _∙_, subst}
-use mathlib.Core.List.{List}
+use mathlib.Core.List.{List, _∷_}
 use native.Mathlib.Omega.{arith}
 use lib.ListN.{length}
 use denote.Ref.{now}
@@ -35,10 +35,23 @@ seek s =
     let a = s .before .before .before .before .before .before .before .args in
     seekName (now (a .image)) (a .signature) (now (a .name))
 
+abbrev answerOf : tie.After-step Inv-loop μ-loop → Found
+answerOf s =
+    let a = s .before .before .before .before .before .before .before .args in
+    findOf (now (a .image)) (a .signature) (now (a .name))
+
 -- a step that goes on, goes on inside the image
 on : (s : tie.After-step Inv-loop μ-loop) (p : Partition) (n : Cursor) → s .step .result ≡ Next p n
     → (s .before .loop .cursor .at < n .at) × (n .at ≤ length (imageOf s))
 on s p n e = next-bounds (imageOf s) (s .before .loop .cursor .at) p n (sym (s .step .ensures) ∙ e)
+
+-- a turn that goes on keeps the invariant, where what is best after it stands for one partition more
+turn : (s : tie.After-step Inv-loop μ-loop) (p : Partition) (n : Cursor) → s .step .result ≡ Next p n → (best : Found)
+    → ((ps : List Partition) → seek s (s .before .loop .best) (p ∷ ps) ≡ seek s best ps)
+    → onWalk (seek s best) Refused (rest (imageOf s) (n .at)) ≡ answerOf s
+turn s p n e best q =
+    let l = s .before .loop in
+    loop-next (imageOf s) (l .cursor .at) (seek s (l .best)) Refused _ (l .inv) p n (sym (s .step .ensures) ∙ e) (seek s best) q
 
 allowed-length-requires : tie.Need-allowed-length-requires Inv-loop μ-loop
 allowed-length-requires c κs = search needs
@@ -88,15 +101,11 @@ loop-less c =
 loop-again : tie.Need-loop-again Inv-loop μ-loop
 loop-again c =
     let h = c .before .before in
-    let t = h .before in
-    let s = t .before .before .before in
-    let l = s .before in
-    let a = l .before .before .before .before .before .before .args in
-    let g = t .before .step2 .given in
-    let e = sym (s .step .ensures) ∙ g .1 in
-    loop-next (imageOf s) (l .loop .cursor .at) (seek s (l .loop .best)) Refused _ (l .loop .inv) (g .0 .0) (g .0 .1 .0) e
-    (seek s (c .first-named .result))
-    (λ ps. seek-signed (imageOf s) (a .signature) (now (a .name)) (l .loop .best) (g .0 .0) ps
+    let s = h .before .before .before .before in
+    let a = s .before .before .before .before .before .before .before .args in
+    let g = h .before .before .step2 .given in
+    turn s (g .0 .0) (g .0 .1 .0) (g .1) (c .first-named .result)
+    (λ ps. seek-signed (imageOf s) (a .signature) (now (a .name)) (s .before .loop .best) (g .0 .0) ps
     (h .signature-at .result) (h .signature-at .ensures) (c .before .if2 .taken) (c .first-named .result) (c .first-named .ensures))
 
 loop-less-2 : tie.Need-loop-less-2 Inv-loop μ-loop
@@ -108,15 +117,11 @@ loop-less-2 c =
 loop-again-2 : tie.Need-loop-again-2 Inv-loop μ-loop
 loop-again-2 c =
     let h = c .before in
-    let t = h .before in
-    let s = t .before .before .before in
-    let l = s .before in
-    let a = l .before .before .before .before .before .before .args in
-    let g = t .before .step2 .given in
-    let e = sym (s .step .ensures) ∙ g .1 in
-    loop-next (imageOf s) (l .loop .cursor .at) (seek s (l .loop .best)) Refused _ (l .loop .inv) (g .0 .0) (g .0 .1 .0) e
-    (seek s (l .loop .best))
-    (λ ps. seek-other (imageOf s) (a .signature) (now (a .name)) (l .loop .best) (g .0 .0) ps
+    let s = h .before .before .before .before in
+    let a = s .before .before .before .before .before .before .before .args in
+    let g = h .before .before .step2 .given in
+    turn s (g .0 .0) (g .0 .1 .0) (g .1) (s .before .loop .best)
+    (λ ps. seek-other (imageOf s) (a .signature) (now (a .name)) (s .before .loop .best) (g .0 .0) ps
     (h .signature-at .result) (h .signature-at .ensures) (c .if2 .left))
 
 enum-told : tie.Need-enum-told Inv-loop μ-loop

@@ -1,4 +1,4 @@
--- `partition_name::matches_name` meets its contract. The loop's invariant: the bytes before i agree, and none of them is 0x00.
+-- `partition_name::matches_name` meets its contract. The loop's invariant: the names match exactly when their bytes from i on do.
 use Prim.Native.Nat.{_-_}
 use native.Mathlib.Omega.{arith}
 use denote.Ref.{now}
