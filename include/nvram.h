@@ -28,9 +28,9 @@ extern "C" {
 
 /* The version of this header and of the library. */
 #define NVRAM_VERSION_MAJOR 0
-#define NVRAM_VERSION_MINOR 3
-#define NVRAM_VERSION_PATCH 1
-#define NVRAM_VERSION "0.3.1"
+#define NVRAM_VERSION_MINOR 4
+#define NVRAM_VERSION_PATCH 0
+#define NVRAM_VERSION "0.4.0"
 
 /* Limits, in bytes. */
 #define NVRAM_BLOCK 16                /* a block, and a header */
@@ -42,27 +42,30 @@ extern "C" {
 
 /* Error codes, and the offset that each answers; nvram_error_text says them in
  * words. They are tested in the order 11, 1, the headers from byte 0 with 2 to
- * 4 at each, 6, the area from its first byte with 7 to 10, then 12, 13, 14.
+ * 4 at each, 20, 6, the area from its first byte with 7 to 10, then 12, 13, 14.
  * With NVRAM_BAD_NAME the byte is the first one that is not allowed; the index
  * is 0 for an empty name, and NVRAM_VARIABLE_NAME_MAX for a name that is too
- * long and good so far. */
+ * long and good so far. NVRAM_REPEATED_PARTITION is for the calls on variables
+ * alone; a third such partition changes nothing. */
 enum nvram_code {
-    NVRAM_DONE = 0,          /* 0 */
-    NVRAM_IMAGE_LENGTH = 1,  /* 0 */
-    NVRAM_ZERO_LENGTH = 2,   /* header's offset */
-    NVRAM_PAST_END = 3,      /* header's offset */
-    NVRAM_CHECKSUM = 4,      /* header's offset */
+    NVRAM_DONE = 0,                /* 0 */
+    NVRAM_IMAGE_LENGTH = 1,        /* 0 */
+    NVRAM_ZERO_LENGTH = 2,         /* header's offset */
+    NVRAM_PAST_END = 3,            /* header's offset */
+    NVRAM_CHECKSUM = 4,            /* header's offset */
     /* 5 was for a checksum that agrees and is zero, which no header of a
      * non-zero length has; the number is not used again. */
-    NVRAM_NO_PARTITION = 6,  /* 0 */
-    NVRAM_AREA_END = 7,      /* offset just past the area */
-    NVRAM_STORED_NAME = 8,   /* offset of the byte */
-    NVRAM_ESCAPE = 9,        /* offset of that second byte */
-    NVRAM_REPEATED = 10,     /* offset of the later pair */
-    NVRAM_BAD_NAME = 11,     /* index of the byte in the name */
-    NVRAM_NO_VARIABLE = 12,  /* 0 */
-    NVRAM_NO_ROOM = 13,      /* 0 */
-    NVRAM_SHORT_BUFFER = 14  /* 0 */
+    NVRAM_NO_PARTITION = 6,        /* 0 */
+    NVRAM_AREA_END = 7,            /* offset just past the area */
+    NVRAM_STORED_NAME = 8,         /* offset of the byte */
+    NVRAM_ESCAPE = 9,              /* offset of that second byte */
+    NVRAM_REPEATED = 10,           /* offset of the later pair */
+    NVRAM_BAD_NAME = 11,           /* index of the byte in the name */
+    NVRAM_NO_VARIABLE = 12,        /* 0 */
+    NVRAM_NO_ROOM = 13,            /* 0 */
+    NVRAM_SHORT_BUFFER = 14,       /* 0 */
+    /* 15 to 19 are answered by no call on an image. */
+    NVRAM_REPEATED_PARTITION = 20  /* offset of the second one's header */
 };
 
 /* A code in words, a constant string; "unknown code" for any other number. */
@@ -97,6 +100,8 @@ static inline const char *nvram_error_text(uint32_t code)
         return "the pairs and the ending 0x00 after the edit exceed the area";
     case NVRAM_SHORT_BUFFER:
         return "the buffer is shorter than the value or the text";
+    case NVRAM_REPEATED_PARTITION:
+        return "a second partition has signature 0x70 and the name common";
     default:
         return "unknown code";
     }
@@ -123,12 +128,16 @@ uint32_t nvram_find(const uint8_t *image, size_t image_len, uint8_t signature,
                     const uint8_t *name, size_t name_len,
                     size_t *offset, size_t *header, size_t *blocks);
 
-/* The number of variables. Codes 0 to 4 and 6 to 10. */
+/* The calls on variables, from nvram_count to nvram_normalize, refuse an image
+ * with a second partition of signature 0x70 and name "common"; the calls above
+ * and nvram_listing take it. */
+
+/* The number of variables. Codes 0 to 4, 6 to 10 and 20. */
 uint32_t nvram_count(const uint8_t *image, size_t image_len,
                      size_t *offset, size_t *variables);
 
 /* Reads a variable: its value goes to the start of the buffer, and the bytes
- * after it are kept. Codes 0 to 4, 6 to 12 and 14. */
+ * after it are kept. Codes 0 to 4, 6 to 12, 14 and 20. */
 uint32_t nvram_read(const uint8_t *image, size_t image_len,
                     const uint8_t *name, size_t name_len,
                     uint8_t *buffer, size_t buffer_len,
@@ -137,17 +146,18 @@ uint32_t nvram_read(const uint8_t *image, size_t image_len,
 /* Sets a variable: its pair is replaced where it stands, or added after the
  * last. A name has 1 to NVRAM_VARIABLE_NAME_MAX bytes of 0x21 to 0x7E without
  * A to Z and without / \ : [ ] @ =; a value has any bytes, or none. Codes 0 to
- * 4, 6 to 11 and 13. */
+ * 4, 6 to 11, 13 and 20. */
 uint32_t nvram_set(uint8_t *image, size_t image_len,
                    const uint8_t *name, size_t name_len,
                    const uint8_t *value, size_t value_len, size_t *offset);
 
-/* Removes a variable; the pairs after it close up. Codes 0 to 4 and 6 to 12. */
+/* Removes a variable; the pairs after it close up. Codes 0 to 4, 6 to 12 and
+ * 20. */
 uint32_t nvram_remove(uint8_t *image, size_t image_len,
                       const uint8_t *name, size_t name_len, size_t *offset);
 
 /* Stores every value in its canonical form, the shortest, and zeroes what
- * follows the pairs. Codes 0 to 4 and 6 to 10. */
+ * follows the pairs. Codes 0 to 4, 6 to 10 and 20. */
 uint32_t nvram_normalize(uint8_t *image, size_t image_len, size_t *offset);
 
 /* Writes a listing of the partitions to the start of the text buffer; a line

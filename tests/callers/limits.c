@@ -1,5 +1,5 @@
 /* Holds each limit of nvram.h to the library: done at the limit, refused one past it; where a partition's name ends; the
- * index that a wrong name is refused at; and the texts of its codes. */
+ * offset that a second `common` is refused at; the index that a wrong name is refused at; and the texts of its codes. */
 #include <stdio.h>
 #include <string.h>
 
@@ -109,6 +109,70 @@ static void partition_names(void)
     want("the header after it", memcmp(image + NVRAM_BLOCK, header, NVRAM_BLOCK) == 0, 1);
 }
 
+/* Fills the image with one free block and this many partitions of two blocks for the variables, the second one with a
+ * leftover byte in its name, and answers its length. */
+static size_t commons(size_t count)
+{
+    static const uint8_t plain[NVRAM_BLOCK + 1] = "\x70\xFD\x00\x02" "common\0\0\0\0\0";
+    static const uint8_t leftover[NVRAM_BLOCK + 1] = "\x70\x76\x00\x02" "common\0x\0\0\0";
+    size_t i;
+    free_blocks();
+    for (i = 0; i < count; i++) {
+        uint8_t *at = image + (1 + 2 * i) * NVRAM_BLOCK;
+        memset(at, 0, 2 * NVRAM_BLOCK);
+        memcpy(at, i == 1 ? leftover : plain, NVRAM_BLOCK);
+        memcpy(at + NVRAM_BLOCK, "1=a", 3);
+    }
+    return (1 + 2 * count) * NVRAM_BLOCK;
+}
+
+/* Each call on variables answers this code at this offset, and a refused one keeps the image and the buffer. */
+static void on_variables(const char *label, size_t length, uint32_t wanted, size_t at)
+{
+    static uint8_t before[7 * NVRAM_BLOCK];
+    uint32_t codes[5];
+    size_t offsets[5], i;
+    memcpy(before, image, sizeof before);
+    text[0] = 'x';
+    number = blocks = NVRAM_IMAGE_MAX;
+    codes[0] = nvram_count(image, length, &offsets[0], &number);
+    codes[1] = nvram_read(image, length, value, 1, text, 1, &offsets[1], &blocks);
+    codes[2] = nvram_normalize(image, length, &offsets[2]);
+    codes[3] = nvram_set(image, length, value, 1, value, 1, &offsets[3]);
+    codes[4] = nvram_remove(image, length, value, 1, &offsets[4]);
+    for (i = 0; i < sizeof codes / sizeof *codes; i++) {
+        want(label, codes[i], wanted);
+        want(label, (uint32_t)offsets[i], (uint32_t)at);
+    }
+    want(label, (uint32_t)number, wanted == NVRAM_DONE);
+    want(label, (uint32_t)blocks, wanted == NVRAM_DONE);
+    want(label, text[0], wanted == NVRAM_DONE ? 'a' : 'x');
+    want(label, memcmp(before, image, sizeof before) == 0, wanted != NVRAM_DONE);
+}
+
+/* A second partition for the variables is refused at its header, a third one changes nothing, and the other calls take
+ * them; a wrong name and a later header's fault come before it, the first area's fault after it. */
+static void second_partition(void)
+{
+    const uint8_t *name = (const uint8_t *)"common";
+    const size_t second = 3 * NVRAM_BLOCK, third = 5 * NVRAM_BLOCK, length = 7 * NVRAM_BLOCK;
+    on_variables("one common", commons(1), NVRAM_DONE, 0);
+    on_variables("two common", commons(2), NVRAM_REPEATED_PARTITION, second);
+    on_variables("three common", commons(3), NVRAM_REPEATED_PARTITION, second);
+    want("a check", nvram_check(image, length, &offset, &number), NVRAM_DONE);
+    want("four partitions", (uint32_t)number, 4);
+    want("a find", nvram_find(image, length, 0x70, name, 6, &offset, &number, &blocks), NVRAM_DONE);
+    want("the first header", (uint32_t)number, NVRAM_BLOCK);
+    image[2 * NVRAM_BLOCK] = 'A';
+    on_variables("a stored name", length, NVRAM_REPEATED_PARTITION, second);
+    want("a wrong name", nvram_read(image, length, (const uint8_t *)"aB", 2, text, 1, &offset, &number), NVRAM_BAD_NAME);
+    want("its index", (uint32_t)offset, 1);
+    image[third + 1] ^= 1;
+    on_variables("a later checksum", length, NVRAM_CHECKSUM, third);
+    want("the text of NVRAM_REPEATED_PARTITION", strcmp(nvram_error_text(NVRAM_REPEATED_PARTITION),
+         "a second partition has signature 0x70 and the name common") == 0, 1);
+}
+
 /* A variable's name. */
 static void variables(void)
 {
@@ -168,7 +232,8 @@ static void codes(void)
     for (code = 0; code < 256; code++) {
         sprintf(label, "the text of %lu", (unsigned long)code);
         want(label, strcmp(nvram_error_text(code), "unknown code") != 0,
-             code <= NVRAM_CHECKSUM || (code >= NVRAM_NO_PARTITION && code <= NVRAM_SHORT_BUFFER));
+             code <= NVRAM_CHECKSUM || (code >= NVRAM_NO_PARTITION && code <= NVRAM_SHORT_BUFFER) ||
+                 code == NVRAM_REPEATED_PARTITION);
     }
     want("the text of no code", strcmp(nvram_error_text(0xFFFFFFFF), "unknown code") == 0, 1);
 }
@@ -186,6 +251,7 @@ int main(void)
     partitions();
     listing();
     partition_names();
+    second_partition();
     variables();
     wrong_bytes();
     codes();

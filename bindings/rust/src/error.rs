@@ -56,6 +56,7 @@ codes! {
     12 NoVariable "the variable is not found",
     13 NoRoom "the pairs and the ending 0x00 after the edit exceed the area",
     14 ShortBuffer "the buffer is shorter than the value or the text",
+    20 RepeatedPartition "a second partition has signature 0x70 and the name common",
 }
 
 impl fmt::Display for Code {
@@ -110,7 +111,8 @@ mod tests {
     #[test]
     fn numbers_of_the_table_are_known_and_no_other() {
         let known = |&number: &u32| !matches!(Code::from_number(number), Code::Unknown(_));
-        assert!((0..1_000).filter(known).eq((1..=4).chain(6..=14)));
+        let table = (1..=4).chain(6..=14).chain([20]);
+        assert!((0..1_000).filter(known).eq(table));
     }
 
     #[test]

@@ -2,6 +2,9 @@
 //!
 //! Every function takes slices, so pointers and lengths always agree and nothing overlaps.
 //! A refused call leaves the image and the buffer with the bytes they had.
+//!
+//! The calls on variables (`count`, `read`, `set`, `remove`, `normalize`) refuse an image with a second partition of
+//! signature 0x70 and name `common` with [`Code::RepeatedPartition`]; the other calls take it.
 
 #![no_std]
 
@@ -141,6 +144,21 @@ pub fn find(image: &[u8], signature: u8, name: &[u8]) -> Result<Partition, Error
 }
 
 /// The number of variables.
+///
+/// An image with a second `common` is refused at that one's header, by each call on variables and by no other call:
+///
+/// ```
+/// let two = *b"\x70\xFC\x00\x01common\0\0\0\0\0\0\x70\xFC\x00\x01common\0\0\0\0\0\0";
+/// let mut image = two;
+/// let error = nvram::count(&image).unwrap_err();
+/// assert_eq!((error.code, error.offset), (nvram::Code::RepeatedPartition, 16));
+/// assert_eq!(nvram::set(&mut image, b"a", b"1"), Err(error));
+/// assert_eq!(image, two);
+///
+/// assert_eq!(nvram::check(&image), Ok(2));
+/// assert_eq!(nvram::find(&image, 0x70, b"common")?.header, 0);
+/// # Ok::<(), nvram::Error>(())
+/// ```
 pub fn count(image: &[u8]) -> Result<usize, Error> {
     let (mut offset, mut variables) = (0, 0);
     // SAFETY: each pointer is of a live borrow with its slice's length: valid, not null, and none overlaps another.
@@ -257,12 +275,12 @@ mod tests {
     #[test]
     fn unknown_code_is_an_error() {
         let error = Error {
-            code: Code::Unknown(20),
+            code: Code::Unknown(99),
             offset: 5,
             byte: None,
         };
-        assert_eq!(answer(20, 5, ()), Err(error));
-        assert_eq!(answer_by_name(20, 5, b"a-name", ()), Err(error));
+        assert_eq!(answer(99, 5, ()), Err(error));
+        assert_eq!(answer_by_name(99, 5, b"a-name", ()), Err(error));
         assert_eq!(answer(0, 0, 7), Ok(7));
     }
 

@@ -39,7 +39,7 @@ use Rattle.variables.proofs.EditLaws.{length-area, parse-area, lookup-none, loo
 use Rattle.variables.proofs.LookupLaws.{found-exactly}
 use Rattle.variables.proofs.CallLaws.{check-named, split-parse, split-room, call-misnamed, call-faulty, call-parsed, set-short}
 use Rattle.variables.proofs.CallLaws.{set-done as set-outcome, read-done}
-use Rattle.nvram.specs.Common.{HasCommon, commonOf}
+use Rattle.nvram.specs.Common.{OnlyCommon, commonOf}
 use Rattle.nvram.specs.Calls.{Told, toldAt, Result, callImage}
 use Rattle.nvram.proofs.CommonLaws.{split-found, common-exactly, common-among, common-kept}
 use Rattle.nvram.proofs.CallLaws.{image-misnamed, image-refused, call-image}
@@ -155,7 +155,7 @@ set-read I name value buffer h l =
     (λ k w. absurd (refused-code (BadName k) (sym (ap (λ (y : Result). y .told .code) (image-misnamed (set name value) I k w)) ∙ h)))
 
 -- a variable reads as its entry says
-pub entry-read : (I : List ℕ) → AllBytes I → (p : Partition) (es : List Entry) (name value buffer : List ℕ) → HasCommon I p
+pub entry-read : (I : List ℕ) → AllBytes I → (p : Partition) (es : List Entry) (name value buffer : List ℕ) → OnlyCommon I p
     → WellFormed es (areaAt I (p .offset)) → Holds name es value → length value ≤ length buffer → Reads (callImage (read name buffer) I .told) value
 entry-read I b p es name value buffer f w h l =
     let e : commonOf I ≡ At p = common-exactly I b p .1 f in

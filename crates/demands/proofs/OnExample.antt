@@ -16,7 +16,7 @@ use Rattle.header.specs.Rules.{blocksAt}
 use Rattle.partition_name.specs.Name.{sameName, padded, matchesName}
 use Rattle.partitions.specs.declared.Found.the-variants.{At}
 use Rattle.partitions.specs.Walk.{allowedLength, partitionOf, pastOf, stepAt, walkFrom, walk}
-use Rattle.partitions.specs.Find.{matches, firstMatch, findBy, findOf}
+use Rattle.partitions.specs.Find.{matches, firstMatch, onlyMatch, onlyBy, onlyOf}
 use Rattle.partitions.specs.Cover.{areaAt}
 use Rattle.partitions.specs.Examples.{E}
 use Rattle.names.specs.Name.{nameByte, nameCheckFrom, nameCheck}
@@ -26,7 +26,7 @@ use Rattle.pairs.specs.Area.{pairOf, pairBytes, parseFrom, parse}
 use Rattle.pairs.specs.Rules.{Entry, WellFormed}
 use Rattle.variables.specs.Calls.{Call, set, remove, read, normalize, count}
 use Rattle.pairs.proofs.EntryLaws.{parse-exactly}
-use Rattle.nvram.specs.Common.{HasCommon, commonOf}
+use Rattle.nvram.specs.Common.{OnlyCommon, commonOf}
 use Rattle.nvram.proofs.CommonLaws.{common-exactly}
 use Rattle.demands.specs.Requests.{Request, variable}
 use Rattle.demands.specs.Model.{runModel, canonicalArea}
@@ -55,11 +55,11 @@ held = record { name = 0x61 ∷ []; value = 0x31 ∷ []; size = 4 } ∷ []
 
 -- and it is the partition of two blocks at 0
 found : (commonOf E ≡ At first) × (commonOf L ≡ At first)
-unfolding commonOf findOf findBy firstMatch matches matchesName sameName padded
+unfolding commonOf onlyOf onlyBy onlyMatch firstMatch matches matchesName sameName padded
     walk walkFrom stepAt allowedLength partitionOf pastOf validityAt validityOf headerAt nameAt sumFrom
 found = (refl, refl)
 
-example-common : HasCommon E first
+example-common : OnlyCommon E first
 example-common = common-exactly E example-bytes first .0 (found .0)
 
 example-formed : WellFormed held (areaAt E 0)
@@ -75,21 +75,21 @@ pub example-2 : Demand2 E
 example-2 = demands .demand-2 E example-bytes
 
 -- DEMAND 3 of every list of calls on E
-pub example-3 : (calls : List Call) → CallsBytes calls → Demand3 E 0 held calls
+pub example-3 : (calls : List Call) → CallsBytes calls → Demand3 E first held calls
 example-3 calls b = demands .demand-3 E first held calls example-bytes b example-common example-formed
 
 -- DEMAND 3 of every list of calls on L, where a leftover byte stands after the 0x00 of `common`
 leftover-bytes : AllBytes L
 leftover-bytes = tested L refl
 
-leftover-common : HasCommon L first
+leftover-common : OnlyCommon L first
 leftover-common = common-exactly L leftover-bytes first .0 (found .1)
 
 leftover-formed : WellFormed held (areaAt L 0)
 unfolding areaAt blocksAt
 leftover-formed = example-formed
 
-pub example-leftover : (calls : List Call) → CallsBytes calls → Demand3 L 0 held calls
+pub example-leftover : (calls : List Call) → CallsBytes calls → Demand3 L first held calls
 example-leftover calls b = demands .demand-3 L first held calls leftover-bytes b leftover-common leftover-formed
 
 -- a set, and calls of every kind, lend bytes
@@ -106,7 +106,7 @@ every-kind-bytes = (example-set-bytes, (tt, (tt, (tt, (tt, tt)))))
 pub example-set : Demand1 (variable (set (0x62 ∷ []) (0x00 ∷ 0xFF ∷ []))) E
 example-set = example-1 (variable (set (0x62 ∷ []) (0x00 ∷ 0xFF ∷ []))) example-set-bytes
 
-pub example-calls : Demand3 E 0 held every-kind
+pub example-calls : Demand3 E first held every-kind
 example-calls = example-3 every-kind every-kind-bytes
 
 -- and the area afterwards is canonical, since a normalizing stands among them

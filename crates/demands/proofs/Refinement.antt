@@ -15,7 +15,7 @@ use Rattle.pairs.specs.Area.{Pair, parsed, parse}
 use Rattle.pairs.specs.Rules.{Entry, WellFormed}
 use Rattle.pairs.proofs.EntryLaws.{entriesOf, parse-exactly}
 use Rattle.variables.specs.Calls.{Call, normalize, Outcome, callArea}
-use Rattle.nvram.specs.Common.{HasCommon, commonOf}
+use Rattle.nvram.specs.Common.{OnlyCommon, commonOf}
 use Rattle.nvram.specs.Calls.{Result, callImage}
 use Rattle.nvram.proofs.CommonLaws.{common-exactly, common-among, common-kept}
 use Rattle.nvram.proofs.CallLaws.{call-image}
@@ -28,7 +28,7 @@ use Rattle.demands.proofs.Agree.{modelOf, InForm, in-form-area, area-in
 abbrev areaIn : Partition → List ℕ → List ℕ
 areaIn p I = areaOf I (At p)
 
--- an image whose `common` stands at p, with an area of the pairs ps
+-- an image whose one `common` stands at p, with an area of the pairs ps
 record State (p : Partition) (I : List ℕ) (ps : List Pair) : Type 0 where
   place : commonOf I ≡ At p
   reads : parse (areaIn p I) ≡ parsed ps
@@ -176,13 +176,14 @@ module _ (p : Partition) (I : List ℕ) (ps : List Pair) (calls : List Call) (h 
         sym last-area ∙ in-form-area f ∙ (λ i. canonicalArea (k .room i) (sym last-entries i))
 
     -- of the area as the rules say it
-    by-rules : (es : List Entry) → entriesOf ps ≡ es → Demand3 I (p .offset) es calls
+    by-rules : (es : List Entry) → entriesOf ps ≡ es → Demand3 I p es calls
     by-rules es q =
         let A : areaIn p I ≡ areaAt I (p .offset) = among-area I p (common-among I p (h .place)) in
         let m : modelOf (areaIn p I) ps ≡ record { room = length (areaAt I (p .offset)); entries = es } =
         λ i. record { room = length (A i); entries = q i } in
         record {
           told = t .told ∙ ap (λ (x : Model). runModel calls x .told) m;
+          one-common = common-exactly last (k .state .bytes) p .0 (k .state .place);
           entries = subst (λ (x : Model). WellFormed (runModel calls x .model .entries) (areaAt last (p .offset))) m last-formed;
           outside = k .outside;
           canonical = λ x.
@@ -191,8 +192,8 @@ module _ (p : Partition) (I : List ℕ) (ps : List Pair) (calls : List Call) (h 
         }
 
 -- DEMAND 3
-pub demand-3 : (I : List ℕ) (p : Partition) (es : List Entry) (calls : List Call) → AllBytes I → CallsBytes calls → HasCommon I p
-    → WellFormed es (areaAt I (p .offset)) → Demand3 I (p .offset) es calls
+pub demand-3 : (I : List ℕ) (p : Partition) (es : List Entry) (calls : List Call) → AllBytes I → CallsBytes calls → OnlyCommon I p
+    → WellFormed es (areaAt I (p .offset)) → Demand3 I p es calls
 demand-3 I p es calls b h f w =
     let e : commonOf I ≡ At p = common-exactly I b p .1 f in
     let A = among-area I p (common-among I p e) in

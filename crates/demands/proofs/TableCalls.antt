@@ -25,7 +25,7 @@ use Rattle.demands.specs.Table.{by-name, AtPair, Answers}
 use Rattle.demands.specs.Library.{seen}
 use Rattle.demands.specs.Demands.{RequestBytes}
 use Rattle.demands.proofs.ModelLaws.{count-entries}
-use Rattle.demands.proofs.TableImage.{well-named, eleven-seen, missed-seen, header-seen, check-seen, partition-seen, find-seen, area-seen}
+use Rattle.demands.proofs.TableImage.{well-named, eleven-seen, missed-seen, header-seen, second-seen, check-seen, partition-seen, find-seen, area-seen}
 use Rattle.demands.proofs.TablePlaces.{holding-pasted}
 use Rattle.demands.proofs.TableSeen.{CommonAt, pair-common, seenOutcome, common-bytes, becomes-edit, call-seen, refuse-seen, answer-seen}
 
@@ -70,6 +70,7 @@ module _ (I : List ℕ) (bytes : AllBytes I) where
   row-seen b (Answers.two {r = r} h x) = header-seen I bytes r h x
   row-seen b (Answers.three {r = r} h x) = header-seen I bytes r h x
   row-seen b (Answers.four {r = r} h x) = header-seen I bytes r h x
+  row-seen b (Answers.twenty {call = call} {p = p} w s) = second-seen I bytes call p w s
   row-seen b (Answers.six {r = r} w x) = missed-seen I bytes r NoPartition w (inr (refl, x))
   row-seen b (Answers.seven h x) = fault-seen h x
   row-seen b (Answers.eight h x) = fault-seen h x

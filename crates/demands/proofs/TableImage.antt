@@ -1,4 +1,4 @@
--- Rows 1 to 4, 6 and 11 of the table for every request, and the rows of the image check, of a partition and of its area.
+-- Rows 1 to 4, 6, 11 and 20 of the table for every request, and the rows of the image check, of a partition and of its area.
 use Prim.Native.Nat.{ℕ}
 use mathlib.Core.Path.{_≡_, refl, sym, ap, subst, _∙_}
 use mathlib.Core.Logic.{_⊎_, inl, inr}
@@ -17,7 +17,7 @@ use Rattle.partitions.specs.declared.Checked.the-variants.{Accepted as Accepts,
 use Rattle.partitions.specs.declared.Found.{Found}
 use Rattle.partitions.specs.declared.Found.the-variants.{At, Refused}
 use Rattle.partitions.specs.Find.{checkOf, indexOf, findOf}
-use Rattle.partitions.specs.Cover.{Rejected, PartitionCount, FirstNamed, NotNamed, Indexed, NotIndexed, areaAt}
+use Rattle.partitions.specs.Cover.{Rejected, PartitionCount, FirstNamed, NotNamed, rejected, second, absent, Indexed, NotIndexed, areaAt}
 use Rattle.partitions.proofs.CoverLaws.{check-accepts, check-refuses}
 use Rattle.partitions.proofs.FoundLaws.{find-first, find-refuses, index-at, index-refuses}
 use Rattle.partitions.proofs.AreaLaws.{found-among, area-refused}
@@ -28,7 +28,7 @@ use Rattle.names.specs.Rules.{FirstWrong}
 use Rattle.names.proofs.NameLaws.{check-good-exactly, check-wrong-exactly}
 use Rattle.variables.specs.Calls.{Call, named, normalize, count, callCheck}
 use Rattle.variables.proofs.CallLaws.{check-named, check-normalize, check-count}
-use Rattle.nvram.specs.Common.{NoCommon, commonOf}
+use Rattle.nvram.specs.Common.{SecondCommon, NotOnlyCommon, commonOf}
 use Rattle.nvram.specs.Calls.{Result, refusedCall, callImage}
 use Rattle.nvram.proofs.CommonLaws.{common-refuses}
 use Rattle.nvram.proofs.CallLaws.{image-misnamed, image-refused}
@@ -65,7 +65,7 @@ misnamed-seen call I at t = refusal-seen call I (BadName at) (callImage call I) 
 pub eleven-seen : {name : List ℕ} {i : ℕ} (r : Request) (I : List ℕ) → Takes r name → FirstWrong name i → seen r I ≡ refuses r I 11 i
 eleven-seen {name} {i} (variable call) I k w = misnamed-seen call I i (taken-name k ∙ check-wrong-exactly name i .1 w)
 
--- ---- 1 to 4, and 6
+-- ---- 1 to 4, 20, and 6
 
 header-row : {r : Request} {I : List ℕ} {a : ℕ} → AtHeader r I a → (f : HeaderFault) → Breaks I a f → Answers I r (refuses r I (headerCode f) a)
 header-row h ZeroLength x = Answers.two h x
@@ -81,8 +81,16 @@ missed-row r I e w (inl (Rejected.one q)) = Answers.one w q
 missed-row r I e w (inl (Rejected.header l c i x)) = header-row (record { named = w; long = l; before = _; cover = c; within = i }) _ x
 missed-row r I e w (inr (q, b)) = rw q (Answers.six w b)
 
-absent-common : {I : List ℕ} {call : Call} → Absent I (variable call) → NoCommon I
-absent-common (no-common n) = n
+-- what refuses a call on variables before its area is looked at
+pub unfound-row : (call : Call) (I : List ℕ) (e : Error) → WellNamed (variable call) → NotOnlyCommon I e
+    → Answers I (variable call) (refuses (variable call) I (codeOf e) (offsetOf e))
+unfound-row call I e w (rejected r) = missed-row (variable call) I e w (inl r)
+unfound-row call I e w (second s) = Answers.twenty w s
+unfound-row call I e w (absent n) = Answers.six w (no-common n)
+
+missed-common : {I : List ℕ} {call : Call} {e : Error} → Missed I (variable call) e → NotOnlyCommon I e
+missed-common (inl r) = rejected r
+missed-common {I} {call} (inr (q, no-common n)) = rw q (absent n)
 
 absent-index : {I : List ℕ} {n : ℕ} → Absent I (partition n) → NotIndexed I n
 absent-index (no-index n) = n
@@ -102,9 +110,6 @@ module _ (I : List ℕ) (bytes : AllBytes I) where
       → seen (variable call) I ≡ refuses (variable call) I (codeOf e) (offsetOf e)
   refused-call call e t f = refusal-seen call I e (callImage call I) (image-refused call I t e f)
 
-  pub missed-common : (call : Call) (e : Error) → commonOf I ≡ Refused e → Missed I (variable call) e
-  missed-common call e f = moving (λ b. (b .0, no-common (b .1))) (common-refuses I bytes e .0 f)
-
   refused-area : (signature : ℕ) (name : List ℕ) (e : Error) → seenArea (Refused e) I ≡ refuses (area signature name) I (codeOf e) (offsetOf e)
   refused-area signature name e =
       λ i. record {
@@ -121,7 +126,7 @@ module _ (I : List ℕ) (bytes : AllBytes I) where
 
   pub missed-seen : (r : Request) (e : Error) → WellNamed r → Missed I r e → seen r I ≡ refuses r I (codeOf e) (offsetOf e)
   missed-seen (variable call) e w m =
-      refused-call call e (well-named call w) (common-refuses I bytes e .1 (moving (λ b. (b .0, absent-common (b .1))) m))
+      refused-call call e (well-named call w) (common-refuses I bytes e .1 (missed-common m))
   missed-seen check e w (inl r) = ap (λ (c : Checked). seenCheck c I) (check-refuses I bytes e .1 r)
   missed-seen check e w (inr b) = elim (b .1) [ ]
   missed-seen (partition n) e w m =
@@ -134,6 +139,10 @@ module _ (I : List ℕ) (bytes : AllBytes I) where
 
   pub header-seen : {a : ℕ} {f : HeaderFault} (r : Request) → AtHeader r I a → Breaks I a f → seen r I ≡ refuses r I (headerCode f) a
   header-seen r h x = missed-seen r _ (h .named) (inl (Rejected.header (h .long) (h .cover) (h .within) x))
+
+  pub second-seen : (call : Call) (p : Partition) → WellNamed (variable call) → SecondCommon I p
+      → seen (variable call) I ≡ refuses (variable call) I 20 (p .offset)
+  second-seen call p w s = refused-call call _ (well-named call w) (common-refuses I bytes _ .1 (second s))
 
   -- ---- the image check, a partition, and its area
 

@@ -26,6 +26,7 @@ untouched (Answers.one w q) n = refused-so _ _ _ _
 untouched (Answers.two h x) n = refused-so _ _ _ _
 untouched (Answers.three h x) n = refused-so _ _ _ _
 untouched (Answers.four h x) n = refused-so _ _ _ _
+untouched (Answers.twenty w s) n = refused-so _ _ _ _
 untouched (Answers.six w x) n = refused-so _ _ _ _
 untouched (Answers.seven h x) n = refused-so _ _ _ _
 untouched (Answers.eight h x) n = refused-so _ _ _ _

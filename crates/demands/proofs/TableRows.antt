@@ -31,13 +31,13 @@ use Rattle.variables.proofs.CallLaws.{set-short, set-done, remove-missing, remo
 use Rattle.variables.proofs.LookupLaws.{found-exactly, missing-exactly, set-size-exactly}
 use Rattle.variables.proofs.LeavesLaws.{set-leaves-exactly, remove-leaves-exactly, normalize-leaves-exactly}
 use Rattle.nvram.specs.Common.{commonOf}
-use Rattle.nvram.proofs.CommonLaws.{common-exactly}
+use Rattle.nvram.proofs.CommonLaws.{common-exactly, common-refuses}
 use Rattle.demands.specs.Requests.{Request, variable, check, partition, find, area, Seen, refuses, tells}
 use Rattle.demands.specs.Table.{WellNamed, by-name, AtPair, Answers}
 use Rattle.demands.specs.Library.{seen}
 use Rattle.demands.specs.Demands.{CallBytes, RequestBytes}
 use Rattle.demands.proofs.ModelLaws.{count-entries}
-use Rattle.demands.proofs.TableImage.{named-well, eleven-row, misnamed-seen, refused-call, missed-row, missed-common, check-row, partition-row}
+use Rattle.demands.proofs.TableImage.{named-well, eleven-row, misnamed-seen, refused-call, unfound-row, check-row, partition-row}
 use Rattle.demands.proofs.TableImage.{find-row, area-row}
 use Rattle.demands.proofs.TablePlaces.{pasted-holding}
 use Rattle.demands.proofs.TableSeen.{CommonAt, seenOutcome, common-bytes, edit-becomes, call-seen, refuse-seen, answer-seen}
@@ -176,7 +176,7 @@ module _ (I : List ℕ) (bytes : AllBytes I) where
       go t (At p) e = common-row (p .offset) (record { partition = p; found = e; at-offset = refl }) call b t
       go t (Refused x) e =
           same-row (refused-call I bytes call x t e)
-          (missed-row (variable call) I x (named-well call t) (missed-common I bytes call x e))
+          (unfound-row call I x (named-well call t) (common-refuses I bytes x .0 e))
   seen-row check b = check-row I bytes
   seen-row (partition n) b = partition-row I bytes n
   seen-row (find signature name) b = find-row I bytes signature name

@@ -13,7 +13,7 @@ use Rattle.values.specs.Rules.{Spells, Canonical}
 use Rattle.pairs.specs.Rules.{Entry, WellFormed}
 use Rattle.variables.specs.Rules.{Holds}
 use Rattle.variables.specs.Calls.{Action, setTo, removal, readInto, Call, named, set, normalize, read, count}
-use Rattle.nvram.specs.Common.{HasCommon}
+use Rattle.nvram.specs.Common.{OnlyCommon}
 use Rattle.nvram.specs.Calls.{callImage}
 use Rattle.demands.specs.Requests.{Request, variable, check, partition, find, area, Seen, lends}
 use Rattle.demands.specs.Table.{Answers}
@@ -60,7 +60,7 @@ pub record Demand2 (I : List ℕ) : Type 0 where
   -- accepted exactly when sound partitions cover it
   pub accepted : (n : ℕ) → (checkOf I ≡ Accepted n) ↔ PartitionCount I n
   -- a variable reads as the zero and 0xFF runs of its pair say
-  pub reads : (p : Partition) (es : List Entry) (name value buffer : List ℕ) → HasCommon I p → WellFormed es (areaAt I (p .offset))
+  pub reads : (p : Partition) (es : List Entry) (name value buffer : List ℕ) → OnlyCommon I p → WellFormed es (areaAt I (p .offset))
       → Holds name es value → length value ≤ length buffer → (callImage (read name buffer) I .told .code ≡ 0)
       × (callImage (read name buffer) I .told .amount ≡ length value) × (take (length value) (callImage (read name buffer) I .told .buffer) ≡ value)
   -- what we write reads back the same
@@ -76,25 +76,28 @@ abbrev pub Normalizes : List Call → Type 0
 Normalizes [] = ⊥
 Normalizes (call ∷ calls) = (call ≡ normalize) ⊎ Normalizes calls
 
--- DEMAND 3: an accepted image whose `common` stands at a, with an area of the entries es, and a list of calls
-pub record Demand3 (I : List ℕ) (a : ℕ) (es : List Entry) (calls : List Call) : Type 0 where
+-- DEMAND 3: an accepted image with exactly one `common`, p, whose area has the entries es, and a list of calls
+pub record Demand3 (I : List ℕ) (p : Partition) (es : List Entry) (calls : List Call) : Type 0 where
   -- every call has answered as the model does, which sees only the calls
-  pub told : runImage calls I .told ≡ runModel calls (record { room = length (areaAt I a); entries = es }) .told
-  -- afterwards the area is well formed and holds exactly the model's entries, in its order
-  pub entries : WellFormed (runModel calls (record { room = length (areaAt I a); entries = es }) .model .entries) (areaAt (runImage calls I .image) a)
+  pub told : runImage calls I .told ≡ runModel calls (record { room = length (areaAt I (p .offset)); entries = es }) .told
+  -- afterwards p is still the only `common`; that no call on the way has made a second one, the shorter lists say
+  pub one-common : OnlyCommon (runImage calls I .image) p
+  -- its area is well formed and holds exactly the model's entries, in its order
+  pub entries : WellFormed (runModel calls (record { room = length (areaAt I (p .offset)); entries = es }) .model .entries)
+      (areaAt (runImage calls I .image) (p .offset))
   -- no byte outside the area has changed
-  pub outside : OutsideKept I a (runImage calls I .image)
+  pub outside : OutsideKept I (p .offset) (runImage calls I .image)
   -- canonical from the start, or normalized on the way: the area is the canonical form of the final entries
-  pub canonical : (areaAt I a ≡ canonicalArea (length (areaAt I a)) es) ⊎ Normalizes calls
-      → areaAt (runImage calls I .image) a
-      ≡ canonicalArea (length (areaAt I a)) (runModel calls (record { room = length (areaAt I a); entries = es }) .model .entries)
+  pub canonical : (areaAt I (p .offset) ≡ canonicalArea (length (areaAt I (p .offset))) es) ⊎ Normalizes calls
+      → areaAt (runImage calls I .image) (p .offset)
+      ≡ canonicalArea (length (areaAt I (p .offset))) (runModel calls (record { room = length (areaAt I (p .offset)); entries = es }) .model .entries)
 
 -- all of it
 pub record Demands : Type 0 where
   pub demand-1 : (r : Request) (I : List ℕ) → AllBytes I → RequestBytes r → Demand1 r I
   pub demand-2 : (I : List ℕ) → AllBytes I → Demand2 I
   pub demand-3 : (I : List ℕ) (p : Partition) (es : List Entry) (calls : List Call) → AllBytes I → CallsBytes calls
-      → HasCommon I p → WellFormed es (areaAt I (p .offset)) → Demand3 I (p .offset) es calls
+      → OnlyCommon I p → WellFormed es (areaAt I (p .offset)) → Demand3 I p es calls
   -- a read or count changes no byte of any image
   pub read-keeps : (name buffer I : List ℕ) → callImage (read name buffer) I .image ≡ I
   pub count-keeps : (I : List ℕ) → callImage count I .image ≡ I

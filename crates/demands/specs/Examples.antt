@@ -13,7 +13,7 @@ use Rattle.errors.specs.declared.HeaderFault.the-variants.{ZeroLength, PastEnd}
 use Rattle.errors.specs.declared.Error.the-variants.{ImageLength, BadHeader}
 use Rattle.partition_name.specs.Name.{sameName, padded, matchesName}
 use Rattle.partitions.specs.Walk.{allowedLength, partitionOf, pastOf, stepAt, walkFrom, walk}
-use Rattle.partitions.specs.Find.{checkedBy, checkOf, matches, firstMatch, findBy, findOf, areaOf}
+use Rattle.partitions.specs.Find.{checkedBy, checkOf, matches, firstMatch, findBy, findOf, onlyMatch, onlyBy, onlyOf, areaOf}
 use Rattle.partitions.specs.Examples.{E, withArea, commonCovered, freeCovered}
 use Rattle.names.specs.declared.NameCheck.the-variants.{Good, Wrong}
 use Rattle.names.specs.Name.{nameByte, nameCheckFrom, nameCheck}
@@ -87,7 +87,7 @@ pub examples : Examples
 unfolding callImage commonOf callArea callPairs setIn callCheck nameCheck nameCheckFrom nameByte parse parseFrom standAt
     storedName scanName scanValue stands sameBytes areaBytes setPair normalizePairs lookup pairsBytes pairBytes encode encodeFrom
     runBytes fullEscapes restEscape mark decode decodeFrom run runByte pasted checkOf checkedBy walk walkFrom stepAt allowedLength
-    partitionOf pastOf validityAt validityOf headerAt nameAt sumFrom sameName padded matchesName matches firstMatch findBy findOf areaOf
+    partitionOf pastOf validityAt validityOf headerAt nameAt sumFrom sameName padded matchesName matches firstMatch findBy findOf onlyMatch onlyBy onlyOf areaOf
 examples = record {
   one-2 = refl;
   one-3 = refl;
@@ -142,7 +142,7 @@ pub record WrongNames : Type 0 where
 pub wrong-names : WrongNames
 unfolding callImage commonOf callArea callPairs callCheck nameCheck nameCheckFrom nameByte parse parseFrom standAt storedName scanName
     scanValue stands sameBytes pasted walk walkFrom stepAt allowedLength partitionOf pastOf validityAt validityOf headerAt nameAt sumFrom
-    sameName padded matchesName matches firstMatch findBy findOf areaOf
+    sameName padded matchesName matches firstMatch findBy findOf onlyMatch onlyBy onlyOf areaOf
 wrong-names = record {
   none = refl;
   first = refl;

@@ -15,7 +15,7 @@ use Rattle.errors.specs.declared.Error.the-variants.{BadHeader, NoPartition}
 use Rattle.partition_name.specs.Name.{sameName, padded, matchesName}
 use Rattle.partition_name.specs.Examples.{leftover, twelveBytes}
 use Rattle.partitions.specs.Walk.{allowedLength, partitionOf, pastOf, stepAt, walkFrom, walk}
-use Rattle.partitions.specs.Find.{checkedBy, checkOf, matches, firstMatch, findBy, findOf, areaOf}
+use Rattle.partitions.specs.Find.{checkedBy, checkOf, matches, firstMatch, findBy, findOf, onlyMatch, onlyBy, onlyOf, areaOf}
 use Rattle.partitions.specs.Examples.{E, withArea}
 use Rattle.names.specs.Name.{nameByte, nameCheckFrom, nameCheck}
 use Rattle.values.specs.Value.{runByte, run, decodeFrom, decode, mark, fullEscapes, restEscape, runBytes, encodeFrom, encode}
@@ -87,7 +87,7 @@ pub leftover-names : LeftoverNames
 unfolding callImage commonOf callArea callPairs setIn callCheck nameCheck nameCheckFrom nameByte parse parseFrom standAt
     storedName scanName scanValue stands sameBytes areaBytes setPair removePair normalizePairs lookup pairsBytes pairBytes encode encodeFrom
     runBytes fullEscapes restEscape mark decode decodeFrom run runByte pasted checkOf checkedBy walk walkFrom stepAt allowedLength
-    partitionOf pastOf validityAt validityOf headerAt nameAt sumFrom sameName padded matchesName matches firstMatch findBy findOf areaOf
+    partitionOf pastOf validityAt validityOf headerAt nameAt sumFrom sameName padded matchesName matches firstMatch findBy findOf onlyMatch onlyBy onlyOf areaOf
 leftover-names = record {
   accepted = refl;
   covered = refl;

@@ -13,7 +13,7 @@ use Rattle.names.specs.Rules.{NameRule, FirstWrong}
 use Rattle.pairs.specs.Rules.{Entry, In, Pairs, Once, FaultAt}
 use Rattle.variables.specs.Rules.{Holds, SetSize, SetLeaves, RemoveLeaves, NormalizeLeaves}
 use Rattle.variables.specs.Calls.{Action, Call, named, set, remove, normalize, read, count}
-use Rattle.nvram.specs.Common.{HasCommon, NoCommon}
+use Rattle.nvram.specs.Common.{OnlyCommon, SecondCommon, NoCommon}
 use Rattle.demands.specs.Requests.{Request, variable, check, partition, find, area, Seen, refuses, tells, shows, hands}
 
 -- the requests that take a variable's name
@@ -39,11 +39,11 @@ pub data Absent (I : List ℕ) : Request → Type 0 where
   no-name : {signature : ℕ} {name : List ℕ} → NotNamed I signature name → Absent I (find signature name)
   no-area : {signature : ℕ} {name : List ℕ} → NotNamed I signature name → Absent I (area signature name)
 
--- not 11, not 1 to 4, not 6: `common` stands at a; its area begins with good pairs, no name twice, and then comes rest
+-- not 11, not 1 to 4, not 20, not 6: exactly one `common`, at a; its area begins with good pairs, no name twice, and then comes rest
 pub record AtPair (call : Call) (I : List ℕ) (a : ℕ) (es : List Entry) (rest : List ℕ) : Type 0 where
   pub named : WellNamed (variable call)
   pub partition : Partition
-  pub holds : HasCommon I partition
+  pub holds : OnlyCommon I partition
   pub at-offset : partition .offset ≡ a
   pub pairs : Pairs es (areaAt I a) rest
   pub once : Once es
@@ -71,6 +71,9 @@ pub data Answers (I : List ℕ) : Request → Seen → Type 0 where
   three : {r : Request} {a : ℕ} → AtHeader r I a → Breaks I a PastEnd → Answers I r (refuses r I 3 a)
   -- stored and computed checksum differ
   four : {r : Request} {a : ℕ} → AtHeader r I a → Breaks I a Checksum → Answers I r (refuses r I 4 a)
+  -- more than one `common`, for a call on variables; the offset is that of the second one's header
+  twenty : {call : Call} {p : Partition} → WellNamed (variable call) → SecondCommon I p
+      → Answers I (variable call) (refuses (variable call) I 20 (p .offset))
   -- partition not found
   six : {r : Request} → WellNamed r → Absent I r → Answers I r (refuses r I 6 0)
   -- area ends inside a pair, or where a pair or the end should begin; the offset is just past the area

@@ -5,7 +5,7 @@ use Rattle.errors.specs.declared.HeaderFault.the-variants.{ZeroLength, P
 use Rattle.errors.specs.declared.AreaFault.{AreaFault}
 use Rattle.errors.specs.declared.AreaFault.the-variants.{AreaEnd, StoredName, Escape, Repeated}
 use Rattle.errors.specs.declared.Error.{Error}
-use Rattle.errors.specs.declared.Error.the-variants.{ImageLength, BadHeader, NoPartition, BadArea, BadName, NoVariable, NoRoom, ShortBuffer}
+use Rattle.errors.specs.declared.Error.the-variants.{ImageLength, BadHeader, NoPartition, BadArea, BadName, NoVariable, NoRoom, ShortBuffer, RepeatedPartition}
 
 -- the code of a header's fault
 abbrev pub headerCode : HeaderFault → ℕ
@@ -30,6 +30,7 @@ codeOf (BadName at) = 11
 codeOf NoVariable = 12
 codeOf NoRoom = 13
 codeOf ShortBuffer = 14
+codeOf (RepeatedPartition at) = 20
 
 -- the offset answered with it, 0 where the table has none (document 01: place); of 11 it is the index in the name
 abbrev pub offsetOf : Error → ℕ
@@ -41,8 +42,9 @@ offsetOf (BadName at) = at
 offsetOf NoVariable = 0
 offsetOf NoRoom = 0
 offsetOf ShortBuffer = 0
+offsetOf (RepeatedPartition at) = at
 
--- an error of a call on a variable area that begins at n: the area's faults get their offsets in the image, an index in a name stays
+-- an error of a call on a variable area that begins at n: the area's faults get their offsets in the image, every other error stays
 abbrev pub moved : ℕ → Error → Error
 moved n ImageLength = ImageLength
 moved n (BadHeader fault at) = BadHeader fault at
@@ -52,3 +54,4 @@ moved n (BadName at) = BadName at
 moved n NoVariable = NoVariable
 moved n NoRoom = NoRoom
 moved n ShortBuffer = ShortBuffer
+moved n (RepeatedPartition at) = RepeatedPartition at

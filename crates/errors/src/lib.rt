@@ -69,6 +69,8 @@ pub enum Error {
     NoRoom,
     // 14: the caller's buffer is shorter than the value or the text.
     ShortBuffer,
+    // 20: a second partition has the signature and the name that only one may have; its header is at this offset.
+    RepeatedPartition { at: usize },
 }
 
 impl Error {
@@ -85,6 +87,7 @@ impl Error {
             Error::NoVariable => 12,
             Error::NoRoom => 13,
             Error::ShortBuffer => 14,
+            Error::RepeatedPartition { at: _ } => 20,
         }
     }
 
@@ -101,6 +104,7 @@ impl Error {
             Error::NoVariable => 0,
             Error::NoRoom => 0,
             Error::ShortBuffer => 0,
+            Error::RepeatedPartition { at } => at,
         }
     }
 }

@@ -1,11 +1,13 @@
 -- The loop that looks for a partition by its signature and name.
 use Prim.Native.Nat.{ℕ, _+_, _-_, _≤_}
 use mathlib.Core.Path.{_≡_, ap, refl, sym, _∙_}
-use mathlib.Core.Bool.{Bool, true, false}
+use mathlib.Core.Bool.{Bool, true, false, cond}
 use mathlib.Core.List.{List, [], _∷_}
 use native.Mathlib.Omega.{arith}
 use lib.ListN.{length, take, drop}
-use Rattle.errors.specs.declared.Error.the-variants.{ImageLength, NoPartition}
+use Rattle.lists.proofs.Tests.{split}
+use Rattle.errors.specs.declared.Error.{Error}
+use Rattle.errors.specs.declared.Error.the-variants.{ImageLength, RepeatedPartition}
 use Rattle.header.specs.Header.{headerAt}
 use Rattle.header.proofs.SumLaws.{name-part}
 use Rattle.header.proofs.RuleLaws.{name-read}
@@ -15,12 +17,15 @@ use Rattle.partitions.specs.declared.Found.{Found}
 use Rattle.partitions.specs.declared.Found.the-variants.{At, Refused}
 use Rattle.partitions.specs.declared.Cursor.{Cursor}
 use Rattle.partitions.specs.declared.Step.the-variants.{Next}
-use Rattle.partitions.specs.Walk.{Walk, covered, broken, allowedLength, stepAt}
-use Rattle.partitions.specs.Find.{matches, firstMatch, findBy, findOf}
-use Rattle.partitions.specs.Helpers.{keepFirst}
+use Rattle.partitions.specs.Walk.{Walk, covered, broken, allowedLength, stepAt, walk}
+use Rattle.partitions.specs.Find.{matches, firstMatch, findBy, findOf, onlyUnless, onlyMatch, onlyBy, onlyOf}
 use Rattle.partitions.proofs.WalkLaws.{rest, walk-rest, walk-refused, onWalk}
 use Rattle.partitions.proofs.LoopLaws.{next-goes}
 use Rattle.partitions.proofs.FoundLaws.{matches-signed, matches-other, find-walk, find-covered, find-broken, match-nothing, match-head, match-tail}
+use Rattle.partitions.proofs.OnlyLaws.{only-walk, only-covered, only-broken, only-nothing, only-head, only-tail}
+use Rattle.lookup.specs.declared.Matched.{Matched}
+use Rattle.lookup.specs.declared.Matched.the-variants.{None, One, Second}
+use Rattle.lookup.specs.Helpers.{matchedNext, matchedFound}
 
 -- the name in the image, where the header is whole
 pub header-name : (image : List ℕ) (at : ℕ) → at + 16 ≤ length image → (name : List ℕ) (r : Bool)
@@ -32,54 +37,99 @@ header-name image at h name r e =
 pub whole-header : (image : List ℕ) (at : ℕ) (p : Partition) (c : Cursor) → stepAt image at ≡ Next p c → p .offset + 16 ≤ length image
 whole-header image at p c e = let g = next-goes image at p c e in omega (arith, g .here, g .some, g .past, g .inside)
 
--- what the turns so far make of the partitions that are left
-abbrev pub seekName : List ℕ → ℕ → List ℕ → Found → List Partition → Found
-seekName image signature name best [] = best
-seekName image signature name best (p ∷ ps) =
-    seekName image signature name (keepFirst best (matches image signature name (p .offset)) p) ps
+-- what is found by what has matched so far and the partitions that are left
+abbrev pub seekName : Bool → List ℕ → ℕ → List ℕ → Matched → List Partition → Found
+seekName only image signature name matched [] = matchedFound matched
+seekName only image signature name matched (p ∷ ps) =
+    seekName only image signature name (matchedNext only matched (matches image signature name (p .offset)) p) ps
+
+-- what is answered: the only one, or the first one
+abbrev pub seekOf : Bool → List ℕ → ℕ → List ℕ → Found
+seekOf only image signature name = cond only (onlyOf image signature name) (findOf image signature name)
+
+module _ (only : Bool) (image : List ℕ) (signature : ℕ) (name : List ℕ) where
+  seek-second : (at : ℕ) (ps : List Partition) → seekName only image signature name (Second at) ps ≡ Refused (RepeatedPartition at)
+  seek-second at [] = refl
+  seek-second at (p ∷ ps) = seek-second at ps
+
+-- one has matched: it is found, unless only one may match and another follows
+module _ (image : List ℕ) (signature : ℕ) (name : List ℕ) (q : Partition) where
+  seek-first : (ps : List Partition) → seekName false image signature name (One q) ps ≡ At q
+  seek-first [] = refl
+  seek-first (p ∷ ps) = seek-first ps
+
+  seek-one : (ps : List Partition) → seekName true image signature name (One q) ps ≡ onlyUnless q (firstMatch image signature name ps)
+  seek-one [] = ap (onlyUnless q) (sym (match-nothing image signature name))
+  seek-one (p ∷ ps) =
+      split (matches image signature name (p .offset))
+      (λ t. rw t (seek-second true image signature name (p .offset) ps) ∙ ap (onlyUnless q) (sym (match-head image signature name p ps t)))
+      (λ t. rw t (seek-one ps) ∙ ap (onlyUnless q) (sym (match-tail image signature name p ps t)))
 
 module _ (image : List ℕ) (signature : ℕ) (name : List ℕ) where
-  name-kept : (q : Partition) (ps : List Partition) → seekName image signature name (At q) ps ≡ At q
-  name-kept q [] = refl
-  name-kept q (p ∷ ps) = name-kept q ps
+  -- none has matched
+  abbrev NoneYet : Bool → List Partition → Type 0
+  NoneYet only ps = seekName only image signature name None ps ≡ cond only (onlyMatch image signature name ps) (firstMatch image signature name ps)
 
-  seek-name : (ps : List Partition) → seekName image signature name (Refused NoPartition) ps ≡ firstMatch image signature name ps
-  seek-name [] = sym (match-nothing image signature name)
-  seek-name (p ∷ ps) = go (matches image signature name (p .offset)) refl (seek-name ps)
-    where
-      go : (b : Bool) → matches image signature name (p .offset) ≡ b
-          → seekName image signature name (Refused NoPartition) ps ≡ firstMatch image signature name ps
-          → seekName image signature name (Refused NoPartition) (p ∷ ps) ≡ firstMatch image signature name (p ∷ ps)
-      go true e ih = rw e (name-kept p ps) ∙ sym (match-head image signature name p ps e)
-      go false e ih = rw e ih ∙ sym (match-tail image signature name p ps e)
+  none-yet : (only : Bool) (ps : List Partition) → NoneYet only ps
+  none-yet true [] = sym (only-nothing image signature name)
+  none-yet false [] = sym (match-nothing image signature name)
+  none-yet true (p ∷ ps) =
+      split (matches image signature name (p .offset))
+      (λ t. rw t (seek-one image signature name p ps) ∙ sym (only-head image signature name p ps t))
+      (λ t. rw t (none-yet true ps) ∙ sym (only-tail image signature name p ps t))
+  none-yet false (p ∷ ps) =
+      split (matches image signature name (p .offset))
+      (λ t. rw t (seek-first image signature name p ps) ∙ sym (match-head image signature name p ps t))
+      (λ t. rw t (none-yet false ps) ∙ sym (match-tail image signature name p ps t))
 
-  name-on : (w : Walk) → onWalk (seekName image signature name (Refused NoPartition)) Refused w ≡ findBy image signature name w
-  name-on (covered ps) = seek-name ps ∙ sym (find-covered image signature name ps)
-  name-on (broken e) = sym (find-broken image signature name e)
+  -- by the walk
+  seek-walk : (only : Bool) → seekOf only image signature name ≡ cond only (onlyBy image signature name (walk image)) (findBy image signature name (walk image))
+  seek-walk true = only-walk image signature name
+  seek-walk false = find-walk image signature name
 
-  pub name-refused : allowedLength (length image) ≡ false → Refused ImageLength ≡ findOf image signature name
-  name-refused a =
-      sym (find-walk image signature name ∙ ap (findBy image signature name) (walk-refused image a) ∙ find-broken image signature name ImageLength)
+  seek-broken : (only : Bool) (e : Error) → cond only (onlyBy image signature name (broken e)) (findBy image signature name (broken e)) ≡ Refused e
+  seek-broken true e = only-broken image signature name e
+  seek-broken false e = find-broken image signature name e
 
-  pub name-start : allowedLength (length image) ≡ true
-      → onWalk (seekName image signature name (Refused NoPartition)) Refused (rest image 0) ≡ findOf image signature name
-  name-start a =
-      name-on (rest image 0) ∙ sym (find-walk image signature name ∙ ap (findBy image signature name) (walk-rest image a))
+  seek-covered : (only : Bool) (ps : List Partition) → cond only (onlyBy image signature name (covered ps)) (findBy image signature name (covered ps))
+      ≡ cond only (onlyMatch image signature name ps) (firstMatch image signature name ps)
+  seek-covered true ps = only-covered image signature name ps
+  seek-covered false ps = find-covered image signature name ps
+
+module _ (only : Bool) (image : List ℕ) (signature : ℕ) (name : List ℕ) where
+  abbrev byWalk : Walk → Found
+  byWalk w = cond only (onlyBy image signature name w) (findBy image signature name w)
+
+  seek-on : (w : Walk) → onWalk (seekName only image signature name None) Refused w ≡ byWalk w
+  seek-on (covered ps) = none-yet image signature name only ps ∙ sym (seek-covered image signature name only ps)
+  seek-on (broken e) = sym (seek-broken image signature name only e)
+
+  pub seek-refused : allowedLength (length image) ≡ false → Refused ImageLength ≡ seekOf only image signature name
+  seek-refused a =
+      sym (seek-walk image signature name only ∙ ap byWalk (walk-refused image a) ∙ seek-broken image signature name only ImageLength)
+
+  pub seek-start : allowedLength (length image) ≡ true
+      → onWalk (seekName only image signature name None) Refused (rest image 0) ≡ seekOf only image signature name
+  seek-start a = seek-on (rest image 0) ∙ sym (seek-walk image signature name only ∙ ap byWalk (walk-rest image a))
 
   -- a turn of the loop, where the signature agrees and where not
-  module _ (best : Found) (p : Partition) (ps : List Partition) (s : ℕ) (es : s ≡ headerAt image (p .offset) .signature) where
-    pub seek-signed : s ≡ signature → (r : Found)
-        → r ≡ keepFirst best (matchesName (headerAt image (p .offset) .name) name) p
-        → seekName image signature name best (p ∷ ps) ≡ seekName image signature name r ps
+  module _ (matched : Matched) (p : Partition) (ps : List Partition) (s : ℕ) (es : s ≡ headerAt image (p .offset) .signature) where
+    pub seek-signed : s ≡ signature → (r : Matched)
+        → r ≡ matchedNext only matched (matchesName (headerAt image (p .offset) .name) name) p
+        → seekName only image signature name matched (p ∷ ps) ≡ seekName only image signature name r ps
     seek-signed e r er =
-        ap (λ (b : Bool). seekName image signature name (keepFirst best b p) ps) (matches-signed image (p .offset) signature name (sym es ∙ e))
-        ∙ ap (λ (f : Found). seekName image signature name f ps) (sym er)
+        ap (λ (b : Bool). seekName only image signature name (matchedNext only matched b p) ps)
+        (matches-signed image (p .offset) signature name (sym es ∙ e))
+        ∙ ap (λ (x : Matched). seekName only image signature name x ps) (sym er)
 
-    pub seek-other : (s ≡ signature → ⊥) → seekName image signature name best (p ∷ ps) ≡ seekName image signature name best ps
+    pub seek-other : (s ≡ signature → ⊥) → seekName only image signature name matched (p ∷ ps) ≡ seekName only image signature name matched ps
     seek-other d =
-        ap (λ (b : Bool). seekName image signature name (keepFirst best b p) ps) (matches-other image (p .offset) signature name (λ q. d (es ∙ q)))
-        ∙ ap (λ (f : Found). seekName image signature name f ps) (unwanted best)
+        ap (λ (b : Bool). seekName only image signature name (matchedNext only matched b p) ps)
+        (matches-other image (p .offset) signature name (λ q. d (es ∙ q)))
+        ∙ ap (λ (x : Matched). seekName only image signature name x ps) (unwanted only matched)
       where
-        unwanted : (f : Found) → keepFirst f false p ≡ f
-        unwanted (At q) = refl
-        unwanted (Refused e) = refl
+        unwanted : (o : Bool) (x : Matched) → matchedNext o x false p ≡ x
+        unwanted o None = refl
+        unwanted true (One q) = refl
+        unwanted false (One q) = refl
+        unwanted o (Second at) = refl

@@ -1,12 +1,13 @@
 // A partition by its signature and name, and its data area.
 ghost use mathlib.Core.Path.{_≡_};
+ghost use mathlib.Core.Bool.{cond};
 ghost use Prim.Native.Nat.{_+_, _≤_};
 ghost use lib.ListN.{length as len};
 ghost use Rattle.header.specs.Header.{headerAt};
 ghost use Rattle.partition_name.specs.Name.{matchesName};
-ghost use Rattle.partitions.specs.Find.{findOf, areaOf};
-ghost use Rattle.partitions.specs.Helpers.{keepFirst};
+ghost use Rattle.partitions.specs.Find.{findOf, onlyOf, areaOf};
 ghost use Rattle.partitions.specs.Views.{findAnswer};
+ghost use Rattle.lookup.specs.Helpers.{matchedNext, matchedFound};
 use errors::Error;
 use header::Header;
 use partitions::Cursor;
@@ -24,19 +25,70 @@ fn has_name(image: &[u8], at: usize, name: &[u8]) -> bool
     partition_name::matches_name(&image[start..end], name)
 }
 
-// What was found before, or else the partition where its name matches; its name is looked at only where nothing was found.
-fn first_named(best: Found, image: &[u8], p: Partition, name: &[u8]) -> Found
+// The partitions that have matched so far.
+enum Matched {
+    None,
+    // The first.
+    One(Partition),
+    // A second one, where only one may match; its header is at this offset.
+    Second { at: usize },
+}
+
+// The same after one more partition of the signature; its name is compared only where that can change them.
+fn next_matched(matched: Matched, image: &[u8], p: Partition, name: &[u8], only: bool) -> Matched
     requires { ⌜ p .offset + 16 ≤ len (now image) ⌝ }
-    ensures { λ r. ⌜ r ≡ keepFirst best (matchesName (headerAt (now (image .entry)) (p .offset) .name) (now (name .entry))) p ⌝ }
+    ensures { λ r. ⌜ r ≡ matchedNext only matched (matchesName (headerAt (now (image .entry)) (p .offset) .name) (now (name .entry))) p ⌝ }
 {
-    match best {
-        Found::At(q) => Found::At(q),
-        Found::Refused(e) => {
+    match matched {
+        Matched::None => {
             if has_name(image, p.offset, name) {
-                Found::At(p)
+                Matched::One(p)
             } else {
-                Found::Refused(e)
+                Matched::None
             }
+        }
+        Matched::One(q) => {
+            if only && has_name(image, p.offset, name) {
+                Matched::Second { at: p.offset }
+            } else {
+                Matched::One(q)
+            }
+        }
+        Matched::Second { at } => Matched::Second { at },
+    }
+}
+
+// What is found, after all partitions.
+fn matched_found(matched: Matched) -> Found
+    ensures { λ r. ⌜ r ≡ matchedFound matched ⌝ }
+{
+    match matched {
+        Matched::None => Found::Refused(Error::NoPartition),
+        Matched::One(p) => Found::At(p),
+        Matched::Second { at } => Found::Refused(Error::RepeatedPartition { at }),
+    }
+}
+
+// The partition that has this signature and a name that matches this one: the first, or the only one.
+fn seek(image: &[u8], signature: u8, name: &[u8], only: bool) -> Found
+    ensures { λ r. ⌜ r ≡ cond only (onlyOf (now (image .entry)) signature (now (name .entry))) (findOf (now (image .entry)) signature (now (name .entry))) ⌝ }
+{
+    if !partitions::allowed_length(image.len()) {
+        return Found::Refused(Error::ImageLength);
+    }
+    let mut cursor = Cursor::start();
+    let mut matched = Matched::None;
+    loop {
+        let step = cursor.step(image);
+        match step {
+            Step::Next(p, next) => {
+                if Header::signature_at(image, p.offset) == signature {
+                    matched = next_matched(matched, image, p, name, only);
+                }
+                cursor = next;
+            }
+            Step::End => break matched_found(matched),
+            Step::Broken(e) => break Found::Refused(e),
         }
     }
 }
@@ -45,24 +97,14 @@ fn first_named(best: Found, image: &[u8], p: Partition, name: &[u8]) -> Found
 pub fn find(image: &[u8], signature: u8, name: &[u8]) -> Found
     ensures { λ r. ⌜ r ≡ findOf (now (image .entry)) signature (now (name .entry)) ⌝ }
 {
-    if !partitions::allowed_length(image.len()) {
-        return Found::Refused(Error::ImageLength);
-    }
-    let mut cursor = Cursor::start();
-    let mut best = Found::Refused(Error::NoPartition);
-    loop {
-        let step = cursor.step(image);
-        match step {
-            Step::Next(p, next) => {
-                if Header::signature_at(image, p.offset) == signature {
-                    best = first_named(best, image, p, name);
-                }
-                cursor = next;
-            }
-            Step::End => break best,
-            Step::Broken(e) => break Found::Refused(e),
-        }
-    }
+    seek(image, signature, name, false)
+}
+
+// The only partition that has this signature and a name that matches this one; where a second one has, it is refused there.
+pub fn find_only(image: &[u8], signature: u8, name: &[u8]) -> Found
+    ensures { λ r. ⌜ r ≡ onlyOf (now (image .entry)) signature (now (name .entry)) ⌝ }
+{
+    seek(image, signature, name, true)
 }
 
 // The data area of that partition as a part of the image, empty where it is refused; the code and the offset are stored.

@@ -19,7 +19,7 @@ use Rattle.header.specs.Header.{bytesOf}
 use Rattle.partitions.specs.declared.Partition.{Partition}
 use Rattle.partitions.specs.declared.Found.{Found}
 use Rattle.partitions.specs.declared.Found.the-variants.{At, Refused}
-use Rattle.partitions.specs.Find.{findOf, areaOf}
+use Rattle.partitions.specs.Find.{onlyOf, areaOf}
 use Rattle.partitions.proofs.AreaLaws.{among-inside, area-part}
 use Rattle.variables.specs.declared.Counted.{Counted}
 use Rattle.variables.specs.declared.Counted.the-variants as Counted
@@ -40,7 +40,7 @@ use Rattle.nvram.proofs.CommonLaws.{split-found, common-found, common-a
 use Rattle.nvram.proofs.CallLaws.{image-misnamed, image-refused, call-image, image-unfound}
 
 -- the span of the partition that was found
-module _ (I : List ℕ) (f : Found) (ef : f ≡ findOf I commonSignature common) where
+module _ (I : List ℕ) (f : Found) (ef : f ≡ onlyOf I commonSignature common) where
   here : f ≡ commonOf I
   here = ef ∙ common-found I
 

@@ -65,6 +65,6 @@ callFound call image (At p) =
     record { told = toldAt (p .offset + 16) (o .reply) (o .buffer); image = pasted image (p .offset + 16) (o .area) }
 callFound call image (Refused e) = refusedCall e call image
 
--- a call on an image: 11 first, then its length, its headers and `common`, then the area
+-- a call on an image: 11 first, then its length, its headers and that it has one `common`, then the area
 unfoldable pub callImage : Call → List ℕ → Result
 callImage call image = onCheck (callCheck call) (callFound call image (commonOf image)) (λ at. refusedCall (BadName at) call image)

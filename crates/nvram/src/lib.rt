@@ -39,11 +39,11 @@ enum Span {
     Refused(Error),
 }
 
-// Where the variable area stands: in the first partition `common`.
+// Where the variable area stands: in the only partition `common`.
 fn common_area(image: &[u8]) -> Span
     ensures { λ r. ⌜ r ≡ areaSpan (commonOf (now (image .entry))) ⌝ }
 {
-    match lookup::find(image, SIGNATURE, b"common") {
+    match lookup::find_only(image, SIGNATURE, b"common") {
         Found::At(p) => {
             let bytes = p.blocks.bytes();
             Span::At {
@@ -69,6 +69,7 @@ fn moved_error(e: Error, by: usize) -> Error
         Error::NoVariable => Error::NoVariable,
         Error::NoRoom => Error::NoRoom,
         Error::ShortBuffer => Error::ShortBuffer,
+        Error::RepeatedPartition { at } => Error::RepeatedPartition { at },
     }
 }
 

@@ -17,7 +17,7 @@ use Rattle.partitions.proofs.WalkLaws.{rest, walk-rest, walk-refused, o
 -- n partitions are to be passed
 abbrev pub seekIndex : Found → ℕ → List Partition → Found
 seekIndex best n [] = best
-seekIndex best zero (p ∷ ps) = seekIndex (keepFirst best true p) zero ps
+seekIndex best zero (p ∷ ps) = seekIndex (keepFirst best p) zero ps
 seekIndex best (suc n) (p ∷ ps) = seekIndex best n ps
 
 index-kept : (q : Partition) (ps : List Partition) → seekIndex (At q) 0 ps ≡ At q
@@ -46,7 +46,7 @@ unfolding indexOf
 index-start image a n = index-on n (rest image 0) ∙ ap (indexBy n) (sym (walk-rest image a))
 
 pub seek-here : (best : Found) (n : ℕ) → n ≡ 0 → (p : Partition) (ps : List Partition)
-    → seekIndex best n (p ∷ ps) ≡ seekIndex (keepFirst best true p) n ps
+    → seekIndex best n (p ∷ ps) ≡ seekIndex (keepFirst best p) n ps
 seek-here best n z p ps = rw z
 
 pub seek-later : (best : Found) (n : ℕ) → (n ≡ 0 → ⊥) → (p : Partition) (ps : List Partition)

@@ -120,13 +120,13 @@ module _ (image : List ℕ) (signature : ℕ) (name : List ℕ) where
           (λ t. rw t (match-later p ps (λ n. clash (cc (named-matches image signature name (p .offset) n))) (firstMatch image signature name ps) ih))
 
   -- and the other way round
-  match-first : (before : List Partition) (p : Partition) (after : List Partition) → NoneNamed image signature name before
+  pub match-first : (before : List Partition) (p : Partition) (after : List Partition) → NoneNamed image signature name before
       → Named image signature name (p .offset) → firstMatch image signature name (before ++ p ∷ after) ≡ At p
   unfolding firstMatch
   match-first [] p after u n = rw (named-matches image signature name (p .offset) n)
   match-first (q ∷ before) p after u n = rw (not-matches image signature name (q .offset) (u .0)) (match-first before p after (u .1) n)
 
-  match-none : (ps : List Partition) → NoneNamed image signature name ps → firstMatch image signature name ps ≡ Refused NoPartition
+  pub match-none : (ps : List Partition) → NoneNamed image signature name ps → firstMatch image signature name ps ≡ Refused NoPartition
   unfolding firstMatch
   match-none [] u = refl
   match-none (p ∷ ps) u = rw (not-matches image signature name (p .offset) (u .0)) (match-none ps (u .1))

@@ -25,7 +25,7 @@ use Rattle.partitions.specs.declared.Step.the-variants.{Next, End, Broke
 use Rattle.partitions.specs.declared.Found.{Found}
 use Rattle.partitions.specs.declared.Found.the-variants.{At, Refused}
 use Rattle.partitions.specs.Walk.{partitionOf, pastOf, stepAt, Walk, covered, broken, first, onStep, walkFrom, allowedLength, walk}
-use Rattle.partitions.specs.Find.{matches, firstMatch, findBy, findOf, areaOf}
+use Rattle.partitions.specs.Find.{matches, firstMatch, findBy, findOf, onlyUnless, onlyMatch, onlyBy, onlyOf, areaOf}
 use Rattle.partitions.specs.Cover.{pastAt, areaAt, OutsideKept}
 use Rattle.partitions.proofs.WalkLaws.{View, ends, goes, breaks, view, past-bounds}
 use Rattle.partitions.proofs.AreaLaws.{Among, among-inside, area-long, area-back}
@@ -73,6 +73,13 @@ module _ (I J : List ℕ) (l : length I ≡ length J) where
   unfolding firstMatch
   first-same signature name [] h = refl
   first-same signature name (q ∷ qs) h = λ i. cond (match-same signature name (q .offset) (h .0) i) (At q) (first-same signature name qs (h .1) i)
+
+  only-same : (signature : ℕ) (name : List ℕ) (ps : List Partition) → HeadersSame ps
+      → onlyMatch I signature name ps ≡ onlyMatch J signature name ps
+  unfolding onlyMatch
+  only-same signature name [] h = refl
+  only-same signature name (q ∷ qs) h =
+      λ i. cond (match-same signature name (q .offset) (h .0) i) (onlyUnless q (first-same signature name qs (h .1) i)) (only-same signature name qs (h .1) i)
 
   first-covered : (q : Partition) (w : Walk) (ps : List Partition) → first q w ≡ covered ps
       → (qs : List Partition) × (w ≡ covered qs) × (ps ≡ q ∷ qs)
@@ -221,13 +228,20 @@ module _ (I : List ℕ) (p : Partition) (m : Among I p) where
     pub among-kept : Among J p
     among-kept = record { before = m .before; after = m .after; walks = walk-kept ∙ m .walks }
 
-    -- and what is found by a signature and a name is the same
+    -- and what is found by a signature and a name is the same, the first and the only one
     pub find-kept : (signature : ℕ) (name : List ℕ) → findOf J signature name ≡ findOf I signature name
     unfolding findOf findBy
     find-kept signature name =
         ap (findBy J signature name) (walk-kept ∙ m .walks)
         ∙ sym (first-same I J (sym (k .long)) signature name (m .before ++ p ∷ m .after) (again .headers))
         ∙ ap (findBy I signature name) (sym (m .walks))
+
+    pub only-kept : (signature : ℕ) (name : List ℕ) → onlyOf J signature name ≡ onlyOf I signature name
+    unfolding onlyOf onlyBy
+    only-kept signature name =
+        ap (onlyBy J signature name) (walk-kept ∙ m .walks)
+        ∙ sym (only-same I J (sym (k .long)) signature name (m .before ++ p ∷ m .after) (again .headers))
+        ∙ ap (onlyBy I signature name) (sym (m .walks))
 
     -- the image is the one before with the new area in its place
     pub kept-pasted : pasted I (p .offset + 16) (areaOf J (At p)) ≡ J

@@ -5,6 +5,7 @@ pub mod FindLaws
 pub mod CoverLaws
 pub mod StepRows
 pub mod FoundLaws
+pub mod OnlyLaws
 pub mod AreaLaws
 pub mod FrameLaws
 pub mod LoopLaws

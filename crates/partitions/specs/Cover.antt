@@ -6,7 +6,7 @@ use lib.ListN.{length, take, drop}
 use Rattle.errors.specs.declared.HeaderFault.{HeaderFault}
 use Rattle.errors.specs.declared.HeaderFault.the-variants.{ZeroLength, PastEnd, Checksum}
 use Rattle.errors.specs.declared.Error.{Error}
-use Rattle.errors.specs.declared.Error.the-variants.{ImageLength, BadHeader}
+use Rattle.errors.specs.declared.Error.the-variants.{ImageLength, BadHeader, NoPartition, RepeatedPartition}
 use Rattle.header.specs.Header.{byteAt, nameAt}
 use Rattle.header.specs.Rules.{blocksAt, Sound, Breaks}
 use Rattle.partition_name.specs.Rules.{MatchesName}
@@ -69,6 +69,27 @@ pub record FirstNamed (image : List ℕ) (signature : ℕ) (name : List ℕ) (p 
   pub unnamed : NoneNamed image signature name before
   pub named : Named image signature name (p .offset)
 
+-- the image is accepted, and p is the only partition of this signature and name: none before it and none after it has them
+pub record OnlyNamed (image : List ℕ) (signature : ℕ) (name : List ℕ) (p : Partition) : Type 0 where
+  pub before : List Partition
+  pub after : List Partition
+  pub accepted : Accepted image (before ++ p ∷ after)
+  pub unnamed-before : NoneNamed image signature name before
+  pub named : Named image signature name (p .offset)
+  pub unnamed-after : NoneNamed image signature name after
+
+-- code 20: the image is accepted, and p is the second partition of this signature and name: exactly one before it has them
+pub record SecondNamed (image : List ℕ) (signature : ℕ) (name : List ℕ) (p : Partition) : Type 0 where
+  pub before : List Partition
+  pub first : Partition
+  pub between : List Partition
+  pub after : List Partition
+  pub accepted : Accepted image (before ++ first ∷ between ++ p ∷ after)
+  pub unnamed-before : NoneNamed image signature name before
+  pub first-named : Named image signature name (first .offset)
+  pub unnamed-between : NoneNamed image signature name between
+  pub named : Named image signature name (p .offset)
+
 -- the partition of an index
 pub record Indexed (image : List ℕ) (n : ℕ) (p : Partition) : Type 0 where
   pub before : List Partition
@@ -81,6 +102,12 @@ pub record NotNamed (image : List ℕ) (signature : ℕ) (name : List ℕ) : Typ
   pub all : List Partition
   pub accepted : Accepted image all
   pub unnamed : NoneNamed image signature name all
+
+-- there is no only partition of this signature and name, and the error that says why
+pub data NotOnly (image : List ℕ) (signature : ℕ) (name : List ℕ) : Error → Type 0 where
+  rejected : {e : Error} → Rejected image e → NotOnly image signature name e
+  second : {p : Partition} → SecondNamed image signature name p → NotOnly image signature name (RepeatedPartition (p .offset))
+  absent : NotNamed image signature name → NotOnly image signature name NoPartition
 
 -- code 6: the image is accepted, and has no more partitions than the index
 pub record NotIndexed (image : List ℕ) (n : ℕ) : Type 0 where

@@ -1,10 +1,10 @@
--- The image check, a partition by its index or by its signature and name, and its data area.
+-- The image check, a partition by its index or by its signature and name, the first or the only one, and its data area.
 use Prim.Native.Nat.{ℕ, zero, suc, _+_, _-_}
 use mathlib.Core.Bool.{Bool, _&&_, cond}
 use mathlib.Core.List.{List, [], _∷_}
 use lib.ListN.{length, take, drop}
 use lib.Dec.{eqb}
-use Rattle.errors.specs.declared.Error.the-variants.{NoPartition}
+use Rattle.errors.specs.declared.Error.the-variants.{NoPartition, RepeatedPartition}
 use Rattle.header.specs.Header.{headerAt, bytesOf}
 use Rattle.partition_name.specs.Name.{matchesName}
 use Rattle.partitions.specs.declared.Partition.{Partition}
@@ -57,6 +57,26 @@ findBy image signature name (broken e) = Refused e
 -- the partition of a signature and a name in an image
 unfoldable pub findOf : List ℕ → ℕ → List ℕ → Found
 findOf image signature name = findBy image signature name (walk image)
+
+-- a match, by what the search after it finds: code 20 at another's header, else the partition
+abbrev pub onlyUnless : Partition → Found → Found
+onlyUnless p (At second) = Refused (RepeatedPartition (second .offset))
+onlyUnless p (Refused e) = At p
+
+-- the only one that matches; code 20 at the second where more do, code 6 where none does
+unfoldable pub onlyMatch : List ℕ → ℕ → List ℕ → List Partition → Found
+onlyMatch image signature name [] = Refused NoPartition
+onlyMatch image signature name (p ∷ ps) =
+    cond (matches image signature name (p .offset)) (onlyUnless p (firstMatch image signature name ps)) (onlyMatch image signature name ps)
+
+-- the only match among the partitions that a walk finds
+unfoldable pub onlyBy : List ℕ → ℕ → List ℕ → Walk → Found
+onlyBy image signature name (covered ps) = onlyMatch image signature name ps
+onlyBy image signature name (broken e) = Refused e
+
+-- the only partition of a signature and a name in an image; code 20 or 6 where there is none
+unfoldable pub onlyOf : List ℕ → ℕ → List ℕ → Found
+onlyOf image signature name = onlyBy image signature name (walk image)
 
 -- the data area of the partition that was found: what follows its header; nothing where it was refused
 unfoldable pub areaOf : List ℕ → Found → List ℕ

@@ -1,6 +1,5 @@
 // The partitions of an image: a walk by steps, the image check, and a partition by its index.
 ghost use mathlib.Core.Path.{_≡_};
-ghost use mathlib.Core.Bool.{true};
 ghost use Rattle.partitions.specs.Walk.{allowedLength, stepAt};
 ghost use Rattle.partitions.specs.Find.{checkOf, indexOf};
 ghost use Rattle.partitions.specs.Helpers.{keepFirst};
@@ -228,7 +227,7 @@ pub fn check(image: &[u8]) -> Checked
 
 // What was found before, or else the partition.
 fn first_of(best: Found, p: Partition) -> Found
-    ensures { λ r. ⌜ r ≡ keepFirst best true p ⌝ }
+    ensures { λ r. ⌜ r ≡ keepFirst best p ⌝ }
 {
     match best {
         Found::At(_) => best,

@@ -7,7 +7,25 @@ use reference::header::{header_bytes, padded_name, partitions};
 /// The signature and name of the partition with the variables.
 pub const COMMON: (u8, &[u8]) = (0x70, b"common");
 
+/// The signatures and names of partitions that are nearly the one with the variables.
+pub const NEAR_MISSES: [(u8, &[u8]); 13] = [
+    (0x70, b"common-x"),
+    (0x70, b"commons"),
+    (0x70, b"common\x01"),
+    (0x70, b"common-log-1"),
+    (0x70, b"commo"),
+    (0x70, b"commom"),
+    (0x70, b"comm\0on"),
+    (0x70, b"\0common"),
+    (0x70, b"Common"),
+    (0x71, b"common"),
+    (0x7F, b"common"),
+    (0x00, b"common"),
+    (0xF0, b"common\0x"),
+];
+
 /// A partition to be built: signature, name, and data area of whole blocks.
+#[derive(Clone)]
 pub struct Part {
     pub signature: u8,
     pub name: [u8; 12],
@@ -32,13 +50,40 @@ impl Part {
     pub fn free(blocks: usize) -> Part {
         Part::new(0x7F, &[0x77; 12], vec![0; (blocks - 1) * 16])
     }
+
+    /// The length in blocks, header included.
+    pub fn blocks(&self) -> usize {
+        self.data.len() / 16 + 1
+    }
+
+    /// Tells whether the partition is one with the variables.
+    pub fn is_common(&self) -> bool {
+        self.signature == 0x70 && self.name.starts_with(b"common\0")
+    }
+}
+
+/// The offsets of the headers of partitions that follow each other from byte 0.
+pub fn offsets(parts: &[Part]) -> Vec<usize> {
+    let ends = parts.iter().scan(0, |end, part| {
+        *end += 16 * part.blocks();
+        Some(*end)
+    });
+    std::iter::once(0).chain(ends).take(parts.len()).collect()
+}
+
+/// The offsets of the headers of those that are one with the variables.
+pub fn common_offsets(parts: &[Part]) -> Vec<usize> {
+    let all = parts.iter().zip(offsets(parts));
+    all.filter(|(part, _)| part.is_common())
+        .map(|(_, offset)| offset)
+        .collect()
 }
 
 /// An accepted image of the given partitions.
 pub fn image(parts: &[Part]) -> Vec<u8> {
     let mut bytes = Vec::new();
     for part in parts {
-        let blocks = u16::try_from(part.data.len() / 16 + 1).expect("at most 65,535 blocks");
+        let blocks = u16::try_from(part.blocks()).expect("at most 65,535 blocks");
         bytes.extend(header_bytes(part.signature, blocks, &part.name));
         bytes.extend_from_slice(&part.data);
     }
@@ -187,7 +232,7 @@ pub fn area(rng: &mut Rng, pairs: &[u8], spare: usize) -> Vec<u8> {
     area
 }
 
-/// An accepted image with the data area in it, between up to two other partitions on each side.
+/// An accepted image with the data area in its one `common`, between up to two other partitions on each side.
 pub fn around(rng: &mut Rng, area: Vec<u8>) -> Vec<u8> {
     let mut parts = Vec::new();
     for _ in 0..rng.below(3) {
@@ -203,7 +248,7 @@ pub fn around(rng: &mut Rng, area: Vec<u8>) -> Vec<u8> {
     image(&parts)
 }
 
-/// A small partition that is not the one with the variables.
+/// A small partition that is not one with the variables, once in four nearly one.
 pub fn other_part(rng: &mut Rng) -> Part {
     const NAMES: [&[u8]; 7] = [
         b"",
@@ -215,8 +260,14 @@ pub fn other_part(rng: &mut Rng) -> Part {
         b"\x20a\x7F",
     ];
     let data = (0..16 * rng.below(4)).map(|_| rng.byte()).collect();
-    let name = rng.pick(&NAMES);
-    Part::new(*rng.pick(&[0x00, 0x51, 0x70, 0x7F, 0xA0, 0xFF]), name, data)
+    let (signature, name) = match rng.once_in(4) {
+        true => *rng.pick(&NEAR_MISSES),
+        false => (
+            *rng.pick(&[0x00, 0x51, 0x70, 0x7F, 0xA0, 0xFF]),
+            *rng.pick(&NAMES),
+        ),
+    };
+    Part::new(signature, name, data)
 }
 
 /// Gives the header at an offset another name, and the checksum that is right with it.
@@ -226,13 +277,19 @@ pub fn rename(image: &mut [u8], offset: usize, name: &[u8; 12]) {
     image[offset..offset + 16].copy_from_slice(&header);
 }
 
+/// The same name with random bytes after its 0x00.
+pub fn with_leftover(rng: &mut Rng, name: &[u8; 12]) -> [u8; 12] {
+    let mut name = *name;
+    let zero = name.iter().position(|&byte| byte == 0).unwrap_or(11);
+    name[zero + 1..].fill_with(|| rng.byte());
+    name
+}
+
 /// The same image with random bytes after the 0x00 of each header's name.
 pub fn with_leftovers(rng: &mut Rng, image: &[u8]) -> Vec<u8> {
     let mut changed = image.to_vec();
     for part in partitions(image).expect("an accepted image") {
-        let mut name = part.name;
-        let zero = name.iter().position(|&byte| byte == 0).unwrap_or(11);
-        name[zero + 1..].fill_with(|| rng.byte());
+        let name = with_leftover(rng, &part.name);
         rename(&mut changed, part.offset, &name);
     }
     changed
@@ -255,7 +312,7 @@ pub fn random_image(rng: &mut Rng, number: usize, longest: usize, spare: usize) 
     }
 }
 
-/// An accepted image with random variables in a small area; but for `comm`, 0x00, `on` its names are padded with 0x00.
+/// An accepted image with random variables in a small area; nearly all of its names are padded with 0x00.
 pub fn padded_image(rng: &mut Rng, number: usize, longest: usize, spare: usize) -> Vec<u8> {
     let number = rng.below(number + 1);
     let pairs = pairs(rng, number, longest, 3);

@@ -3,13 +3,13 @@
 use std::collections::{BTreeSet, HashSet};
 
 /// The codes that the library may answer.
-pub const CODES: [u32; 14] = [0, 1, 2, 3, 4, 6, 7, 8, 9, 10, 11, 12, 13, 14];
+pub const CODES: [u32; 15] = [0, 1, 2, 3, 4, 6, 7, 8, 9, 10, 11, 12, 13, 14, 20];
 
 /// The code whose offset is an index in the caller's name.
 const BAD_NAME: u32 = 11;
 
 /// The codes whose offset is that of a header, of a byte in a data area, or of a byte in the caller's name.
-const WITH_OFFSET: [u32; 8] = [2, 3, 4, 7, 8, 9, 10, BAD_NAME];
+const WITH_OFFSET: [u32; 9] = [2, 3, 4, 7, 8, 9, 10, BAD_NAME, 20];
 
 /// The number of different offsets wanted of each such code but 11.
 const FEWEST_OFFSETS: usize = 40;

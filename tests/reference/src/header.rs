@@ -28,6 +28,11 @@ impl Partition {
     pub fn data(&self) -> Range<usize> {
         self.offset + BLOCK..self.end()
     }
+
+    /// Tells whether the partition has the signature, and a name that is the same.
+    pub fn matches(&self, signature: u8, name: &[u8; 12]) -> bool {
+        self.signature == signature && same_name(&self.name, name)
+    }
 }
 
 /// Adds the covered bytes one by one, and adds 1 whenever a carry leaves the byte.

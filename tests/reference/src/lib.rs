@@ -50,7 +50,7 @@ pub fn find(image: &[u8], signature: u8, name: &[u8]) -> Result<Partition, Refus
     let all = header::partitions(image)?;
     let wanted = header::padded_name(name).ok_or(Refusal::plain(6))?;
     all.into_iter()
-        .find(|p| p.signature == signature && header::same_name(&p.name, &wanted))
+        .find(|partition| partition.matches(signature, &wanted))
         .ok_or(Refusal::plain(6))
 }
 
@@ -107,9 +107,16 @@ pub fn normalize(image: &mut [u8]) -> Result<(), Refusal> {
     write_back(image, range, &pairs)
 }
 
-/// Where the variables' data area stands in the image.
+/// Where the variables' data area stands in the image; a second partition for the variables is refused at its header.
 pub fn variables_range(image: &[u8]) -> Result<Range<usize>, Refusal> {
-    Ok(find(image, 0x70, b"common")?.data())
+    let all = header::partitions(image)?;
+    let common = |partition: &&Partition| partition.matches(0x70, b"common\0\0\0\0\0\0");
+    let mut found = all.iter().filter(common);
+    match (found.next(), found.next()) {
+        (_, Some(second)) => Err(Refusal::at(20, second.offset)),
+        (Some(only), None) => Ok(only.data()),
+        (None, None) => Err(Refusal::plain(6)),
+    }
 }
 
 /// The variables' data area and its parsed pairs.

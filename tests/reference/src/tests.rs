@@ -1,4 +1,5 @@
-//! The examples 1 to 12 of document 01, the names of partitions, and the name rule with the index of the first wrong byte.
+//! The examples 1 to 12 of document 01, the names of partitions, a second partition for the variables, and the name rule
+//! with the index of the first wrong byte.
 
 use crate::header::{checksum, header_bytes, padded_name, same_name};
 use crate::model::{self, canonical_area, Call, Model};
@@ -226,6 +227,121 @@ fn partition_is_found_up_to_the_zero_of_its_name() {
     ]
     .concat();
     assert_eq!(find(&two, 0x70, b"common").map(|p| p.offset), Ok(0));
+}
+
+/// A partition of two blocks, whose area holds the variable `a`.
+fn two_blocks(signature: u8, name: &[u8; 12]) -> Vec<u8> {
+    let header = header_bytes(signature, 2, name);
+    [&header[..], &padded(b"a=1\0")].concat()
+}
+
+/// Images with two or three partitions for the variables, each with the offset of the second one's header.
+fn second_commons() -> Vec<(Vec<u8>, usize)> {
+    let common = two_blocks(0x70, &COMMON);
+    let leftover = two_blocks(0x70, b"common\0x\0\0\0\0");
+    let empty = header_bytes(0x70, 1, &COMMON).to_vec();
+    let free = header_bytes(0x7F, 1, &FREE).to_vec();
+    let near = two_blocks(0x70, b"common-x\0\0\0\0");
+    let other = two_blocks(0x71, &COMMON);
+    let cut = with_area(b"a=xxxxxxxxxxxxxx")[..32].to_vec();
+    let images: [(&[&[u8]], usize); 9] = [
+        (&[&common, &common], 32),
+        (&[&empty, &empty], 16),
+        (&[&common, &leftover], 32),
+        (&[&leftover, &common], 32),
+        (&[&common, &empty, &leftover], 32),
+        (&[&free, &common, &near, &free, &common], 96),
+        (&[&near, &other, &empty, &other, &near, &common, &free], 144),
+        (&[&common, &other, &common, &common], 64),
+        (&[&cut, &free, &common], 48),
+    ];
+    let images = images.map(|(parts, second)| (parts.concat(), second));
+    images.into_iter().collect()
+}
+
+/// The refusals of all calls on variables, those by a name among them; the image and the buffer keep their bytes.
+fn refusals(image: &[u8], name: &[u8]) -> [Refusal; 5] {
+    let (mut kept, mut buffer) = (image.to_vec(), [9; 3]);
+    let refusals = [
+        count(&kept).unwrap_err(),
+        read(&kept, name, &mut buffer).unwrap_err(),
+        set(&mut kept, name, &[7; 100]).unwrap_err(),
+        remove(&mut kept, name).unwrap_err(),
+        normalize(&mut kept).unwrap_err(),
+    ];
+    assert_eq!((&kept[..], buffer), (image, [9; 3]));
+    refusals
+}
+
+#[test]
+fn second_common_is_refused_by_the_calls_on_variables() {
+    for (image, second) in second_commons() {
+        let refusal = Refusal::at(20, second);
+        for name in [&b"a"[..], b"unknown"] {
+            assert_eq!(refusals(&image, name), [refusal; 5]);
+        }
+        assert_eq!(variables_range(&image), Err(refusal));
+        assert_eq!(Model::of_image(&image), Err(refusal));
+    }
+}
+
+#[test]
+fn second_common_is_taken_by_the_other_calls() {
+    for (image, second) in second_commons() {
+        let partitions = check(&image).unwrap();
+        let all: Vec<Partition> = (0..partitions)
+            .map(|index| partition(&image, index).unwrap())
+            .collect();
+        assert_eq!(partition(&image, partitions), Err(Refusal::plain(6)));
+        assert_eq!(all.last().map(Partition::end), Some(image.len()));
+        let is_common = |p: &&Partition| p.signature == 0x70 && p.name.starts_with(b"common\0");
+        let common: Vec<&Partition> = all.iter().filter(is_common).collect();
+        assert_eq!(common[1].offset, second);
+        assert_eq!(find(&image, 0x70, b"common").as_ref(), Ok(common[0]));
+        assert!(listing(&image).starts_with(b"at blocks"));
+    }
+}
+
+#[test]
+fn second_common_comes_after_a_bad_name_the_length_and_the_headers() {
+    for (image, second) in second_commons() {
+        assert_eq!(refusals(&image, b"aB")[1..4], [Refusal::at(11, 1); 3]);
+        let longer = [&image[..], &[0]].concat();
+        assert_eq!(refusals(&longer, b"a"), [Refusal::plain(1); 5]);
+        let good = [&image[..], &header_bytes(0x7F, 1, &FREE)].concat();
+        assert_eq!(refusals(&good, b"a"), [Refusal::at(20, second); 5]);
+        let last = image.len();
+        for (at, byte, code) in [(3, 0, 2), (3, 2, 3), (1, 0x1B, 4)] {
+            let mut broken = good.clone();
+            broken[last + at] = byte;
+            assert_eq!(refusals(&broken, b"a"), [Refusal::at(code, last); 5]);
+        }
+    }
+}
+
+#[test]
+fn near_misses_are_no_second_common() {
+    let near: [(u8, &[u8; 12]); 8] = [
+        (0x70, b"common-x\0\0\0\0"),
+        (0x70, b"commons\0\0\0\0\0"),
+        (0x70, b"commo\0\0\0\0\0\0\0"),
+        (0x70, b"comm\0on\0\0\0\0\0"),
+        (0x70, b"Common\0\0\0\0\0\0"),
+        (0x70, b"common-log-1"),
+        (0x71, &COMMON),
+        (0x7F, &COMMON),
+    ];
+    for (signature, name) in near {
+        let other = two_blocks(signature, name);
+        let two = other.repeat(2);
+        assert_eq!(refusals(&two, b"a"), [Refusal::plain(6); 5]);
+        let mut image = [&other[..], &base(), &other].concat();
+        assert_eq!(variables_range(&image), Ok(48..64));
+        assert_eq!(count(&image), Ok(1));
+        assert_eq!(set(&mut image, b"b", b"2"), Ok(()));
+        assert_eq!(image[48..64], padded(b"a=1\0b=2\0"));
+        assert_eq!((&image[..32], &image[80..]), (&other[..], &other[..]));
+    }
 }
 
 #[test]

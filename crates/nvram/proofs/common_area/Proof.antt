@@ -17,13 +17,13 @@ inside b =
     let g = b .before .before .p .given in
     let f = b .before .before .before .before in
     let image = now (f .before .before .before .args .image) in
-    span-part image (f .find .result) (f .find .ensures) (g .0 .0) (g .1) (b .bytes .result) (b .bytes .ensures)
+    span-part image (f .find-only .result) (f .find-only .ensures) (g .0 .0) (g .1) (b .bytes .result) (b .bytes .ensures)
 
-slice-aggregate-find : tie.Need-slice-aggregate-find
-slice-aggregate-find c = search needs
+slice-aggregate-find-only : tie.Need-slice-aggregate-find-only
+slice-aggregate-find-only c = search needs
 
-find-requires : tie.Need-find-requires
-find-requires c κs = search needs
+find-only-requires : tie.Need-find-only-requires
+find-only-requires c κs = search needs
 
 enum-known-p : tie.Need-enum-known-p
 enum-known-p c = search needs
@@ -46,20 +46,20 @@ returns c =
     let g = b .before .before .p .given in
     let f = b .before .before .before .before in
     let image = now (f .before .before .before .args .image) in
-    span-found image (f .find .result) (f .find .ensures) (g .0 .0) (g .1) (b .bytes .result) (b .bytes .ensures)
+    span-found image (f .find-only .result) (f .find-only .ensures) (g .0 .0) (g .1) (b .bytes .result) (b .bytes .ensures)
 
 returns-2 : tie.Need-returns-2
 returns-2 c =
     let g = c .before .e .given in
     let f = c .before .before .before in
-    span-refused (now (f .before .before .before .args .image)) (f .find .result) (f .find .ensures) (g .0 .0) (g .1)
+    span-refused (now (f .before .before .before .args .image)) (f .find-only .result) (f .find-only .ensures) (g .0 .0) (g .1)
 
 pub common-area-spec : {M : Type 1} → statement M
 common-area-spec =
     tie.close
     (tie.spec
-    slice-aggregate-find
-    find-requires
+    slice-aggregate-find-only
+    find-only-requires
     enum-known-p
     bytes-requires
     add-t10

@@ -16,8 +16,8 @@ enum-told-2 c = search needs
 enum-known-e-2 : tie.Need-enum-known-e-2
 enum-known-e-2 c = search needs
 
-add-t9 : tie.Need-add-t9
-add-t9 c = let h = rw (c .before .e2 .given .1) at (c .before .before .before .pre) in omega arith
+add-t10 : tie.Need-add-t10
+add-t10 c = let h = rw (c .before .e2 .given .1) at (c .before .before .before .pre) in omega arith
 
 enum-known-e-3 : tie.Need-enum-known-e-3
 enum-known-e-3 c = search needs
@@ -30,6 +30,9 @@ enum-told-4 c = search needs
 
 enum-told-5 : tie.Need-enum-told-5
 enum-told-5 c = search needs
+
+enum-known-e-4 : tie.Need-enum-known-e-4
+enum-known-e-4 c = search needs
 
 returns : tie.Need-returns
 returns c = search needs
@@ -55,6 +58,9 @@ returns-7 c = search needs
 returns-8 : tie.Need-returns-8
 returns-8 c = search needs
 
+returns-9 : tie.Need-returns-9
+returns-9 c = rw (c .before .e4 .given .1)
+
 pub moved-error-spec : {M : Type 1} → statement M
 moved-error-spec =
     tie.close
@@ -63,11 +69,12 @@ moved-error-spec =
     enum-known-e
     enum-told-2
     enum-known-e-2
-    add-t9
+    add-t10
     enum-known-e-3
     enum-told-3
     enum-told-4
     enum-told-5
+    enum-known-e-4
     returns
     returns-2
     returns-3
@@ -75,4 +82,5 @@ moved-error-spec =
     returns-5
     returns-6
     returns-7
-    returns-8)
+    returns-8
+    returns-9)

@@ -172,7 +172,9 @@ pub fn random_areas(ctx: &mut Context) -> Outcome {
 
 /// Images with one fault of each kind, which calls with faults of their own then meet.
 pub fn faulty_images() -> Vec<(&'static str, Vec<u8>)> {
-    let with_area = |area: &[u8]| build::image(&[Part::common(area.to_vec()), Part::free(1)]);
+    let common = |area: &[u8]| Part::common(area.to_vec());
+    let with_area = |area: &[u8]| build::image(&[common(area), Part::free(1)]);
+    let with_second = |area: &[u8]| build::image(&[common(area), Part::free(1), common(&[0; 16])]);
     let mut zero_length = build::base();
     zero_length[34..36].fill(0);
     let mut past_end = build::base();
@@ -185,6 +187,8 @@ pub fn faulty_images() -> Vec<(&'static str, Vec<u8>)> {
         ("zero length", zero_length),
         ("past the end", past_end),
         ("checksum", sum),
+        ("second common", with_second(b"a=1\0b=2\0\0xxxxxxx")),
+        ("second common, cut pair", with_second(b"a=xxxxxxxxxxxxxx")),
         ("no partition", build::image(&[Part::free(2)])),
         ("empty area", build::image(&[Part::common(vec![])])),
         ("cut pair", with_area(b"a=xxxxxxxxxxxxxx")),

@@ -51,9 +51,22 @@ pub fn finding(ctx: &mut Context) -> Outcome {
         for index in [0, 1, 2, 5, 6, 7, usize::MAX, usize::MAX / 16] {
             twin.call(ctx, &Request::Partition(index))?;
         }
-        twin.call(ctx, &Request::Count)?;
+        let reply = twin.call(ctx, &Request::Count)?;
+        let wanted = count_of_zeros(&parts);
+        ctx.same("a count", (reply.code, reply.offset), wanted)?;
     }
     Ok(())
+}
+
+/// The code and offset of a count where every data area has zeros only.
+fn count_of_zeros(parts: &[Part]) -> (u32, usize) {
+    let first = parts.iter().find(|part| part.is_common());
+    match (first, &build::common_offsets(parts)[..]) {
+        (_, [_, second, ..]) => (20, *second),
+        (Some(only), [at]) if only.data.is_empty() => (7, at + 16),
+        (Some(_), _) => (0, 0),
+        (None, _) => (6, 0),
+    }
 }
 
 /// Compares the data range of the wrapper's partition with the reference's.
@@ -137,7 +150,7 @@ fn given_names() -> Vec<(Vec<u8>, Option<&'static [u8]>)> {
     names
 }
 
-/// Partitions whose names differ only after their 0x00: the first one is found.
+/// Partitions whose names differ only after their 0x00: the first one is found, and the second one is refused by a read.
 fn first_of_two(ctx: &mut Context) -> Outcome {
     let names: [[u8; NAME]; 4] = [
         *b"common\0\0\0\0\0\0",
@@ -159,8 +172,9 @@ fn first_of_two(ctx: &mut Context) -> Outcome {
                 let reply = twin.call(ctx, &Request::Find(0x70, given))?;
                 ctx.same("the first of two", found(&reply), (0, 16, 2))?;
             }
-            let reply = twin.call(ctx, &Request::Read(b"a".to_vec(), vec![0; 1]))?;
-            ctx.same("a variable of the first", reply.buffer, b"1".to_vec())?;
+            let reply = twin.call(ctx, &Request::Read(b"a".to_vec(), vec![9; 1]))?;
+            let refused = (reply.code, reply.offset, reply.buffer);
+            ctx.same("a read with a second one", refused, (20, 48, vec![9]))?;
         }
     }
     Ok(())

@@ -8,6 +8,7 @@ mod large;
 mod names;
 mod repeats;
 mod samples;
+mod second;
 mod values;
 
 use crate::context::{Context, Outcome};
@@ -34,6 +35,10 @@ pub const CASES: &[Case] = &[
     case("finding", finding::finding),
     case("partition-names", finding::partition_names),
     case("leftovers", finding::leftovers),
+    case("second-common", second::second_common),
+    case("one-common", second::one_common),
+    case("random-common", second::random_common),
+    case("distant-common", second::distant_common),
     case("listings", headers::listings),
     case("small-areas-at-start", areas::small_at_start),
     case("small-areas-at-end", areas::small_at_end),

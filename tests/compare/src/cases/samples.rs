@@ -2,6 +2,7 @@
 
 use super::finding::as_without;
 use super::read_three_ways;
+use super::second::{refused, variable_calls};
 use crate::build;
 use crate::context::{Context, Failure, Outcome};
 use crate::request::Request;
@@ -35,7 +36,8 @@ fn file_bytes(path: &Path) -> Result<Vec<u8>, Failure> {
     fs::read(path).map_err(|error| Failure(format!("  file:      {}: {error}", path.display())))
 }
 
-/// Every question about every sample, the same calls with leftover bytes in its headers, then random edits on a copy.
+/// Every question about every sample, the same calls with leftover bytes in its headers and on the card twice, then random
+/// edits on a copy.
 pub fn samples(ctx: &mut Context) -> Outcome {
     let Some(folder) = ctx.samples.clone() else {
         return Err(Failure("  folder:    none is given".to_string()));
@@ -53,6 +55,7 @@ pub fn samples(ctx: &mut Context) -> Outcome {
         ctx.same("the listing and its file", text, list)?;
         let leftover = build::with_leftovers(&mut ctx.rng, &image);
         as_without(ctx, &image, &leftover)?;
+        card_twice(ctx, &image, &leftover)?;
         if let Ok(model) = Model::of_image(&image) {
             read_all(ctx, &image, &model)?;
             edit(ctx, &image, model)?;
@@ -80,6 +83,24 @@ fn ask(ctx: &mut Context, image: &[u8]) -> Result<Vec<u8>, Failure> {
     twin.load(image);
     let reply = twin.call(ctx, &Request::Listing(vec![0; 100_000]))?;
     Ok(reply.buffer[..reply.amounts[0]].to_vec())
+}
+
+/// A card with a copy of itself behind it: where it has a `common`, every call on variables answers 20 at the copy's.
+fn card_twice(ctx: &mut Context, card: &[u8], copy: &[u8]) -> Outcome {
+    let mut twin = Twin::new(card);
+    let partitions = twin.call(ctx, &Request::Check)?.amounts[0];
+    let find = Request::Find(0x70, b"common".to_vec());
+    let first = twin.call(ctx, &find)?;
+    let second = match first.code {
+        0 => (20, card.len() + first.amounts[0]),
+        code => (code, 0),
+    };
+    twin.load(&[card, copy].concat());
+    let reply = twin.call(ctx, &Request::Check)?;
+    ctx.same("the partitions", reply.amounts[0], 2 * partitions)?;
+    let reply = twin.call(ctx, &find)?;
+    ctx.same("the first one", reply.to_string(), first.to_string())?;
+    refused(ctx, &mut twin, &variable_calls(), second)
 }
 
 fn read_all(ctx: &mut Context, image: &[u8], model: &Model) -> Outcome {

@@ -1,4 +1,4 @@
--- `lookup::find` meets its contract. The loop's invariant: what the turns so far make of the partitions left is the answer.
+-- `lookup::seek` meets its contract. The loop's invariant: what has matched so far and the partitions left give the answer.
 use Prim.Native.Nat.{ℕ, _-_, _<_, _≤_}
 use mathlib.Core.Path.{_≡_, sym, _∙_, subst}
 use mathlib.Core.List.{List, _∷_}
@@ -6,52 +6,52 @@ use native.Mathlib.Omega.{arith}
 use lib.ListN.{length}
 use denote.Ref.{now}
 use borrow.Author.Tests.{not-true, not-false}
-use Rattle.errors.specs.declared.Error.the-variants.{NoPartition}
 use Rattle.partitions.specs.declared.Partition.{Partition}
 use Rattle.partitions.specs.declared.Cursor.{Cursor}
 use Rattle.partitions.specs.declared.Step.the-variants.{Next}
 use Rattle.partitions.specs.declared.Found.{Found}
 use Rattle.partitions.specs.declared.Found.the-variants.{Refused}
-use Rattle.partitions.specs.Find.{findOf}
 use Rattle.partitions.proofs.WalkLaws.{next-bounds, rest, onWalk, loop-next, loop-end, loop-broken}
-use Rattle.lookup.proofs.SeekLaws.{whole-header, seekName, name-refused, name-start, seek-signed, seek-other}
+use Rattle.lookup.specs.declared.Matched.{Matched}
+use Rattle.lookup.specs.declared.Matched.the-variants.{None}
+use Rattle.lookup.proofs.SeekLaws.{whole-header, seekName, seekOf, seek-refused, seek-start, seek-signed, seek-other}
 use borrow.Author.Needs.{needs}
-use Rattle.lookup.proofs.find.Statement.{statement}
-use Rattle.lookup.proofs.find.Tie as tie
+use Rattle.lookup.proofs.seek.Statement.{statement}
+use Rattle.lookup.proofs.seek.Tie as tie
 
 abbrev Inv-loop : tie.InvT-loop
-Inv-loop image signature name cursor₀ best₀ cursor best =
-    onWalk (seekName image signature name best) Refused (rest image (cursor .at)) ≡ findOf image signature name
+Inv-loop image signature name only cursor₀ matched₀ cursor matched =
+    onWalk (seekName only image signature name matched) Refused (rest image (cursor .at)) ≡ seekOf only image signature name
 
 abbrev μ-loop : tie.MeasureT-loop
-μ-loop image signature name cursor₀ best₀ cursor best = length image - cursor .at
+μ-loop image signature name only cursor₀ matched₀ cursor matched = length image - cursor .at
 
 abbrev imageOf : tie.After-step Inv-loop μ-loop → List ℕ
 imageOf s = now (s .before .before .before .before .before .before .before .args .image)
 
--- what the turns so far make of the partitions that are left
-abbrev seek : tie.After-step Inv-loop μ-loop → Found → List Partition → Found
+-- what is found by what has matched so far and the partitions that are left
+abbrev seek : tie.After-step Inv-loop μ-loop → Matched → List Partition → Found
 seek s =
     let a = s .before .before .before .before .before .before .before .args in
-    seekName (now (a .image)) (a .signature) (now (a .name))
+    seekName (a .only) (now (a .image)) (a .signature) (now (a .name))
 
 abbrev answerOf : tie.After-step Inv-loop μ-loop → Found
 answerOf s =
     let a = s .before .before .before .before .before .before .before .args in
-    findOf (now (a .image)) (a .signature) (now (a .name))
+    seekOf (a .only) (now (a .image)) (a .signature) (now (a .name))
 
 -- a step that goes on, goes on inside the image
 on : (s : tie.After-step Inv-loop μ-loop) (p : Partition) (n : Cursor) → s .step .result ≡ Next p n
     → (s .before .loop .cursor .at < n .at) × (n .at ≤ length (imageOf s))
 on s p n e = next-bounds (imageOf s) (s .before .loop .cursor .at) p n (sym (s .step .ensures) ∙ e)
 
--- a turn that goes on keeps the invariant, where what is best after it stands for one partition more
-turn : (s : tie.After-step Inv-loop μ-loop) (p : Partition) (n : Cursor) → s .step .result ≡ Next p n → (best : Found)
-    → ((ps : List Partition) → seek s (s .before .loop .best) (p ∷ ps) ≡ seek s best ps)
-    → onWalk (seek s best) Refused (rest (imageOf s) (n .at)) ≡ answerOf s
-turn s p n e best q =
+-- a turn that goes on keeps the invariant, where what has matched after it stands for one partition more
+turn : (s : tie.After-step Inv-loop μ-loop) (p : Partition) (n : Cursor) → s .step .result ≡ Next p n → (matched : Matched)
+    → ((ps : List Partition) → seek s (s .before .loop .matched) (p ∷ ps) ≡ seek s matched ps)
+    → onWalk (seek s matched) Refused (rest (imageOf s) (n .at)) ≡ answerOf s
+turn s p n e matched q =
     let l = s .before .loop in
-    loop-next (imageOf s) (l .cursor .at) (seek s (l .best)) Refused _ (l .inv) p n (sym (s .step .ensures) ∙ e) (seek s best) q
+    loop-next (imageOf s) (l .cursor .at) (seek s (l .matched)) Refused _ (l .inv) p n (sym (s .step .ensures) ∙ e) (seek s matched) q
 
 allowed-length-requires : tie.Need-allowed-length-requires Inv-loop μ-loop
 allowed-length-requires c κs = search needs
@@ -60,7 +60,7 @@ returns : tie.Need-returns Inv-loop μ-loop
 returns c =
     let k = c .before in
     let a = k .before .before .before .args in
-    name-refused (now (a .image)) (a .signature) (now (a .name)) (sym (k .allowed-length .ensures) ∙ not-true _ (c .if1 .taken))
+    seek-refused (a .only) (now (a .image)) (a .signature) (now (a .name)) (sym (k .allowed-length .ensures) ∙ not-true _ (c .if1 .taken))
 
 start-requires : tie.Need-start-requires Inv-loop μ-loop
 start-requires c κs = search needs
@@ -72,9 +72,10 @@ loop-holds c =
     let image = now (a .image) in
     let name = now (a .name) in
     subst
-    (λ (s : Cursor). onWalk (seekName image (a .signature) name (Refused NoPartition)) Refused (rest image (s .at)) ≡ findOf image (a .signature) name)
+    (λ (s : Cursor).
+    onWalk (seekName (a .only) image (a .signature) name None) Refused (rest image (s .at)) ≡ seekOf (a .only) image (a .signature) name)
     (sym (c .start .ensures))
-    (name-start image (a .signature) (now (a .name)) (sym (k .allowed-length .ensures) ∙ not-false _ (c .before .if1 .left)))
+    (seek-start (a .only) image (a .signature) name (sym (k .allowed-length .ensures) ∙ not-false _ (c .before .if1 .left)))
 
 step-requires : tie.Need-step-requires Inv-loop μ-loop
 step-requires c κs = search needs
@@ -85,8 +86,8 @@ enum-known-step c = search needs
 signature-at-requires : tie.Need-signature-at-requires Inv-loop μ-loop
 signature-at-requires c κs = search needs
 
-first-named-requires : tie.Need-first-named-requires Inv-loop μ-loop
-first-named-requires c κs =
+next-matched-requires : tie.Need-next-matched-requires Inv-loop μ-loop
+next-matched-requires c κs =
     let t = c .before .before in
     let s = t .before .before .before in
     let g = t .before .step2 .given in
@@ -104,9 +105,9 @@ loop-again c =
     let s = h .before .before .before .before in
     let a = s .before .before .before .before .before .before .before .args in
     let g = h .before .before .step2 .given in
-    turn s (g .0 .0) (g .0 .1 .0) (g .1) (c .first-named .result)
-    (λ ps. seek-signed (imageOf s) (a .signature) (now (a .name)) (s .before .loop .best) (g .0 .0) ps
-    (h .signature-at .result) (h .signature-at .ensures) (c .before .if2 .taken) (c .first-named .result) (c .first-named .ensures))
+    turn s (g .0 .0) (g .0 .1 .0) (g .1) (c .next-matched .result)
+    (λ ps. seek-signed (a .only) (imageOf s) (a .signature) (now (a .name)) (s .before .loop .matched) (g .0 .0) ps
+    (h .signature-at .result) (h .signature-at .ensures) (c .before .if2 .taken) (c .next-matched .result) (c .next-matched .ensures))
 
 loop-less-2 : tie.Need-loop-less-2 Inv-loop μ-loop
 loop-less-2 c =
@@ -120,31 +121,36 @@ loop-again-2 c =
     let s = h .before .before .before .before in
     let a = s .before .before .before .before .before .before .before .args in
     let g = h .before .before .step2 .given in
-    turn s (g .0 .0) (g .0 .1 .0) (g .1) (s .before .loop .best)
-    (λ ps. seek-other (imageOf s) (a .signature) (now (a .name)) (s .before .loop .best) (g .0 .0) ps
+    turn s (g .0 .0) (g .0 .1 .0) (g .1) (s .before .loop .matched)
+    (λ ps. seek-other (a .only) (imageOf s) (a .signature) (now (a .name)) (s .before .loop .matched) (g .0 .0) ps
     (h .signature-at .result) (h .signature-at .ensures) (c .if2 .left))
 
 enum-told : tie.Need-enum-told Inv-loop μ-loop
 enum-told c = search needs
+
+matched-found-requires : tie.Need-matched-found-requires Inv-loop μ-loop
+matched-found-requires c κs = search needs
 
 enum-known-step-2 : tie.Need-enum-known-step-2 Inv-loop μ-loop
 enum-known-step-2 c = search needs
 
 returns-2 : tie.Need-returns-2 Inv-loop μ-loop
 returns-2 c =
-    let s = c .before .before in
+    let t = c .before in
+    let s = t .before .before in
     let l = s .before in
-    loop-end (imageOf s) (l .loop .cursor .at) (seek s (l .loop .best)) Refused _ (l .loop .inv) (sym (s .step .ensures) ∙ c .enum-told .given .1)
+    c .matched-found .ensures
+    ∙ loop-end (imageOf s) (l .loop .cursor .at) (seek s (l .loop .matched)) Refused _ (l .loop .inv) (sym (s .step .ensures) ∙ t .enum-told .given .1)
 
 returns-3 : tie.Need-returns-3 Inv-loop μ-loop
 returns-3 c =
     let s = c .before .before .before in
     let l = s .before in
     let g = c .before .step3 .given in
-    loop-broken (imageOf s) (l .loop .cursor .at) (seek s (l .loop .best)) Refused _ (l .loop .inv) (g .0 .0) (sym (s .step .ensures) ∙ g .1)
+    loop-broken (imageOf s) (l .loop .cursor .at) (seek s (l .loop .matched)) Refused _ (l .loop .inv) (g .0 .0) (sym (s .step .ensures) ∙ g .1)
 
-pub find-spec : {M : Type 1} → statement M
-find-spec =
+pub seek-spec : {M : Type 1} → statement M
+seek-spec =
     tie.close
     (tie.spec
     Inv-loop
@@ -156,12 +162,13 @@ find-spec =
     step-requires
     enum-known-step
     signature-at-requires
-    first-named-requires
+    next-matched-requires
     loop-less
     loop-again
     loop-less-2
     loop-again-2
     enum-told
+    matched-found-requires
     enum-known-step-2
     returns-2
     returns-3)
