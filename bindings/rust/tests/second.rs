@@ -84,7 +84,10 @@ fn other_refusals_come_first() {
         }
         broken[image.len() + 1] ^= 1;
         for error in refused(&broken, b"a") {
-            assert_eq!((error.code, error.offset), (Code::RepeatedPartition, second));
+            assert_eq!(
+                (error.code, error.offset),
+                (Code::RepeatedPartition, second)
+            );
         }
     }
 }

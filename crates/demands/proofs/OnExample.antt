@@ -1,7 +1,7 @@
 -- The demands applied to the example image E: each premise is discharged, for a request and a list of calls of every kind; and demand 3
--- to L, which is E with a leftover byte in the name of `common`.
+-- to L, which is E with a leftover byte in the name of `common`. Row 20 of the table holds of T, which has two.
 use Prim.Native.Nat.{ℕ}
-use mathlib.Core.Path.{_≡_, refl}
+use mathlib.Core.Path.{_≡_, refl, ap}
 use mathlib.Core.Bool.{Bool, true, _&&_}
 use mathlib.Core.List.{List, [], _∷_}
 use mathlib.Core.Logic.{inl, inr}
@@ -28,10 +28,12 @@ use Rattle.variables.specs.Calls.{Call, set, remove, read, normalize, count}
 use Rattle.pairs.proofs.EntryLaws.{parse-exactly}
 use Rattle.nvram.specs.Common.{OnlyCommon, commonOf}
 use Rattle.nvram.proofs.CommonLaws.{common-exactly}
-use Rattle.demands.specs.Requests.{Request, variable}
+use Rattle.demands.specs.Requests.{Request, variable, refuses}
+use Rattle.demands.specs.Table.{Answers}
 use Rattle.demands.specs.Model.{runModel, canonicalArea}
-use Rattle.demands.specs.Library.{runImage}
+use Rattle.demands.specs.Library.{seenCall, runImage}
 use Rattle.demands.specs.NameExamples.{L, first}
+use Rattle.demands.specs.SecondExamples.{T, second-commons}
 use Rattle.demands.specs.Demands.{RequestBytes, CallsBytes, Demand1, Demand2, Demand3}
 use Rattle.demands.proofs.DemandsLaws.{demands}
 
@@ -91,6 +93,10 @@ leftover-formed = example-formed
 
 pub example-leftover : (calls : List Call) → CallsBytes calls → Demand3 L first held calls
 example-leftover calls b = demands .demand-3 L first held calls leftover-bytes b leftover-common leftover-formed
+
+-- row 20 of the table holds of T, which has a second `common` at 32
+pub example-second : Answers T (variable count) (refuses (variable count) T 20 32)
+example-second = demands .demand-1 (variable count) T (tested T refl) tt .exactly _ .1 (ap seenCall (second-commons .counts))
 
 -- a set, and calls of every kind, lend bytes
 example-set-bytes : RequestBytes (variable (set (0x62 ∷ []) (0x00 ∷ 0xFF ∷ [])))

@@ -5,3 +5,4 @@ pub mod Library
 pub mod Demands
 pub mod Examples
 pub mod NameExamples
+pub mod SecondExamples

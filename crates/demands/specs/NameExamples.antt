@@ -47,10 +47,10 @@ abbrev block : Partition
 block = record { offset = 0; blocks = record { 0 = 1 }; signature = 0x70 }
 
 -- headers of one block, `common` with a leftover byte and without
-abbrev leftoverBlock : List ℕ
+abbrev pub leftoverBlock : List ℕ
 leftoverBlock = 0x70 ∷ 0x75 ∷ 0x00 ∷ 0x01 ∷ leftover
 
-abbrev paddedBlock : List ℕ
+abbrev pub paddedBlock : List ℕ
 paddedBlock = 0x70 ∷ 0xFC ∷ 0x00 ∷ 0x01 ∷ (common ++ replicate 6 0x00)
 
 -- `comm`, 0x00, `on`
@@ -66,7 +66,7 @@ pub record LeftoverNames : Type 0 where
   pub own-zero : findOf L 0x70 (common ++ 0x00 ∷ 0x7A ∷ []) ≡ Found.At first
   pub thirteen : findOf L 0x70 (common ++ replicate 7 0x00) ≡ Found.Refused NoPartition
   pub area : areaOf L (findOf L 0x70 common) ≡ 0x61 ∷ 0x3D ∷ 0x31 ∷ 0x00 ∷ replicate 12 0x00
-  -- of two whose names are the same, the first
+  -- of two whose names are the same, the first; the calls on variables refuse such an image (SecondCommons)
   pub leftover-first : findOf (leftoverBlock ++ paddedBlock) 0x70 common ≡ Found.At block
   pub padded-first : findOf (paddedBlock ++ leftoverBlock) 0x70 common ≡ Found.At block
   -- the calls on variables go by it, and leave every byte of the header
