@@ -37,6 +37,26 @@ header-name image at h name r e =
 pub whole-header : (image : List ℕ) (at : ℕ) (p : Partition) (c : Cursor) → stepAt image at ≡ Next p c → p .offset + 16 ≤ length image
 whole-header image at p c e = let g = next-goes image at p c e in omega (arith, g .here, g .some, g .past, g .inside)
 
+-- one more partition p, by whether its name matches, which r says
+module _ (only : Bool) (m : Matched) (b r : Bool) (e : r ≡ b) (p : Partition) where
+  pub next-none : m ≡ None → r ≡ false → None ≡ matchedNext only m b p
+  next-none q z = rw (q, ← e, z)
+
+  pub next-first : m ≡ None → r ≡ true → One p ≡ matchedNext only m b p
+  next-first q z = rw (q, ← e, z)
+
+  module _ (first : Partition) (q : m ≡ One first) where
+    pub next-second : only ≡ true → r ≡ true → Second (p .offset) ≡ matchedNext only m b p
+    next-second o z = rw (q, o, ← e, z)
+
+    pub next-only : r ≡ false → One first ≡ matchedNext only m b p
+    next-only z = split only (λ o. rw (q, o, ← e, z)) (λ o. rw (q, o))
+
+-- a second one does not count
+module _ (m : Matched) (b : Bool) (p first : Partition) (q : m ≡ One first) where
+  pub next-any : (only : Bool) → only ≡ false → One first ≡ matchedNext only m b p
+  next-any only o = rw (q, o)
+
 -- what is found by what has matched so far and the partitions that are left
 abbrev pub seekName : Bool → List ℕ → ℕ → List ℕ → Matched → List Partition → Found
 seekName only image signature name matched [] = matchedFound matched

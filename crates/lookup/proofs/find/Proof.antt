@@ -1,0 +1,13 @@
+-- `lookup::find` meets its contract: the search takes the first match.
+use borrow.Author.Needs.{needs}
+use Rattle.lookup.proofs.find.Statement.{statement}
+use Rattle.lookup.proofs.find.Tie as tie
+
+seek-requires : tie.Need-seek-requires
+seek-requires c κs = search needs
+
+returns : tie.Need-returns
+returns c = c .seek .ensures
+
+pub find-spec : {M : Type 1} → statement M
+find-spec = tie.close (tie.spec seek-requires returns)

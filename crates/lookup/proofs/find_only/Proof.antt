@@ -1,0 +1,13 @@
+-- `lookup::find_only` meets its contract: the search refuses a second match.
+use borrow.Author.Needs.{needs}
+use Rattle.lookup.proofs.find_only.Statement.{statement}
+use Rattle.lookup.proofs.find_only.Tie as tie
+
+seek-requires : tie.Need-seek-requires
+seek-requires c κs = search needs
+
+returns : tie.Need-returns
+returns c = c .seek .ensures
+
+pub find-only-spec : {M : Type 1} → statement M
+find-only-spec = tie.close (tie.spec seek-requires returns)
