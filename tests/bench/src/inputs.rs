@@ -151,6 +151,15 @@ fn one_signature() -> Input {
     input(Kind::Partitions, title, image)
 }
 
+/// The same behind a `common` of one block, so that a call on variables has to look for a second one among all the others.
+fn one_signature_after_common() -> Input {
+    let mut image = format::header(0x70, 1, b"common").to_vec();
+    image.extend(format::header(0x70, 1, b"common-log-1").repeat(65_534));
+    image.extend(format::header(0x70, 1, b"common-log-2"));
+    let title = "common and 65,535 one-block partitions of signature 0x70";
+    input(Kind::Partitions, title, image)
+}
+
 /// An image with one variable that has this value.
 fn one_value(title: &str, value: &[u8]) -> Input {
     let pair = format::pair(b"value", value);
@@ -284,6 +293,7 @@ pub fn all(folder: &Path, names: Option<&Path>) -> Result<Vec<Input>, String> {
     inputs.push(many("1 MiB, 104,000 variables", 65_536, 104_000, 2));
     inputs.push(one_block_partitions());
     inputs.push(one_signature());
+    inputs.push(one_signature_after_common());
     inputs.push(one_value(
         "1,000,000 plain bytes in one value",
         &vec![b'x'; 1_000_000],
