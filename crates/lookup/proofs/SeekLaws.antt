@@ -18,14 +18,15 @@ use Rattle.partitions.specs.declared.Found.the-variants.{At, Refused}
 use Rattle.partitions.specs.declared.Cursor.{Cursor}
 use Rattle.partitions.specs.declared.Step.the-variants.{Next}
 use Rattle.partitions.specs.Walk.{Walk, covered, broken, allowedLength, stepAt, walk}
-use Rattle.partitions.specs.Find.{matches, firstMatch, findBy, findOf, onlyUnless, onlyMatch, onlyBy, onlyOf}
+use Rattle.partitions.specs.Find.{matches, firstMatch, findBy, onlyUnless, onlyMatch, onlyBy}
 use Rattle.partitions.proofs.WalkLaws.{rest, walk-rest, walk-refused, onWalk}
 use Rattle.partitions.proofs.LoopLaws.{next-goes}
 use Rattle.partitions.proofs.FoundLaws.{matches-signed, matches-other, find-walk, find-covered, find-broken, match-nothing, match-head, match-tail}
 use Rattle.partitions.proofs.OnlyLaws.{only-walk, only-covered, only-broken, only-nothing, only-head, only-tail}
 use Rattle.lookup.specs.declared.Matched.{Matched}
 use Rattle.lookup.specs.declared.Matched.the-variants.{None, One, Second}
-use Rattle.lookup.specs.Helpers.{matchedNext, matchedFound}
+use Rattle.lookup.specs.declared.Matched.the-variants as Matched
+use Rattle.lookup.specs.Helpers.{matchedNext, matchedFound, seekOf}
 
 -- the name in the image, where the header is whole
 pub header-name : (image : List ℕ) (at : ℕ) → at + 16 ≤ length image → (name : List ℕ) (r : Bool)
@@ -63,9 +64,12 @@ seekName only image signature name matched [] = matchedFound matched
 seekName only image signature name matched (p ∷ ps) =
     seekName only image signature name (matchedNext only matched (matches image signature name (p .offset)) p) ps
 
--- what is answered: the only one, or the first one
-abbrev pub seekOf : Bool → List ℕ → ℕ → List ℕ → Found
-seekOf only image signature name = cond only (onlyOf image signature name) (findOf image signature name)
+-- what is answered, by the walk and by the partitions
+abbrev byWalk : Bool → List ℕ → ℕ → List ℕ → Walk → Found
+byWalk only image signature name w = cond only (onlyBy image signature name w) (findBy image signature name w)
+
+abbrev byPartitions : Bool → List ℕ → ℕ → List ℕ → List Partition → Found
+byPartitions only image signature name ps = cond only (onlyMatch image signature name ps) (firstMatch image signature name ps)
 
 module _ (only : Bool) (image : List ℕ) (signature : ℕ) (name : List ℕ) where
   seek-second : (at : ℕ) (ps : List Partition) → seekName only image signature name (Second at) ps ≡ Refused (RepeatedPartition at)
@@ -87,10 +91,7 @@ module _ (image : List ℕ) (signature : ℕ) (name : List ℕ) (q : Partition) 
 
 module _ (image : List ℕ) (signature : ℕ) (name : List ℕ) where
   -- none has matched
-  abbrev NoneYet : Bool → List Partition → Type 0
-  NoneYet only ps = seekName only image signature name None ps ≡ cond only (onlyMatch image signature name ps) (firstMatch image signature name ps)
-
-  none-yet : (only : Bool) (ps : List Partition) → NoneYet only ps
+  none-yet : (only : Bool) (ps : List Partition) → seekName only image signature name None ps ≡ byPartitions only image signature name ps
   none-yet true [] = sym (only-nothing image signature name)
   none-yet false [] = sym (match-nothing image signature name)
   none-yet true (p ∷ ps) =
@@ -102,35 +103,32 @@ module _ (image : List ℕ) (signature : ℕ) (name : List ℕ) where
       (λ t. rw t (seek-first image signature name p ps) ∙ sym (match-head image signature name p ps t))
       (λ t. rw t (none-yet false ps) ∙ sym (match-tail image signature name p ps t))
 
-  -- by the walk
-  seek-walk : (only : Bool) → seekOf only image signature name ≡ cond only (onlyBy image signature name (walk image)) (findBy image signature name (walk image))
+  seek-walk : (only : Bool) → seekOf only image signature name ≡ byWalk only image signature name (walk image)
   seek-walk true = only-walk image signature name
   seek-walk false = find-walk image signature name
 
-  seek-broken : (only : Bool) (e : Error) → cond only (onlyBy image signature name (broken e)) (findBy image signature name (broken e)) ≡ Refused e
-  seek-broken true e = only-broken image signature name e
-  seek-broken false e = find-broken image signature name e
-
-  seek-covered : (only : Bool) (ps : List Partition) → cond only (onlyBy image signature name (covered ps)) (findBy image signature name (covered ps))
-      ≡ cond only (onlyMatch image signature name ps) (firstMatch image signature name ps)
+  seek-covered : (only : Bool) (ps : List Partition) → byWalk only image signature name (covered ps) ≡ byPartitions only image signature name ps
   seek-covered true ps = only-covered image signature name ps
   seek-covered false ps = find-covered image signature name ps
 
-module _ (only : Bool) (image : List ℕ) (signature : ℕ) (name : List ℕ) where
-  abbrev byWalk : Walk → Found
-  byWalk w = cond only (onlyBy image signature name w) (findBy image signature name w)
+  seek-broken : (only : Bool) (e : Error) → byWalk only image signature name (broken e) ≡ Refused e
+  seek-broken true e = only-broken image signature name e
+  seek-broken false e = find-broken image signature name e
 
-  seek-on : (w : Walk) → onWalk (seekName only image signature name None) Refused w ≡ byWalk w
+module _ (only : Bool) (image : List ℕ) (signature : ℕ) (name : List ℕ) where
+  seek-on : (w : Walk) → onWalk (seekName only image signature name None) Refused w ≡ byWalk only image signature name w
   seek-on (covered ps) = none-yet image signature name only ps ∙ sym (seek-covered image signature name only ps)
   seek-on (broken e) = sym (seek-broken image signature name only e)
 
   pub seek-refused : allowedLength (length image) ≡ false → Refused ImageLength ≡ seekOf only image signature name
   seek-refused a =
-      sym (seek-walk image signature name only ∙ ap byWalk (walk-refused image a) ∙ seek-broken image signature name only ImageLength)
+      sym (seek-walk image signature name only ∙ ap (byWalk only image signature name) (walk-refused image a)
+      ∙ seek-broken image signature name only ImageLength)
 
   pub seek-start : allowedLength (length image) ≡ true
       → onWalk (seekName only image signature name None) Refused (rest image 0) ≡ seekOf only image signature name
-  seek-start a = seek-on (rest image 0) ∙ sym (seek-walk image signature name only ∙ ap byWalk (walk-rest image a))
+  seek-start a =
+      seek-on (rest image 0) ∙ sym (seek-walk image signature name only ∙ ap (byWalk only image signature name) (walk-rest image a))
 
   -- a turn of the loop, where the signature agrees and where not
   module _ (matched : Matched) (p : Partition) (ps : List Partition) (s : ℕ) (es : s ≡ headerAt image (p .offset) .signature) where
@@ -153,3 +151,4 @@ module _ (only : Bool) (image : List ℕ) (signature : ℕ) (name : List ℕ) wh
         unwanted true (One q) = refl
         unwanted false (One q) = refl
         unwanted o (Second at) = refl
+        unwanted o (Matched.Refused e) = refl

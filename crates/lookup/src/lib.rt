@@ -1,13 +1,12 @@
 // A partition by its signature and name, and its data area.
 ghost use mathlib.Core.Path.{_≡_};
-ghost use mathlib.Core.Bool.{cond};
 ghost use Prim.Native.Nat.{_+_, _≤_};
 ghost use lib.ListN.{length as len};
 ghost use Rattle.header.specs.Header.{headerAt};
 ghost use Rattle.partition_name.specs.Name.{matchesName};
 ghost use Rattle.partitions.specs.Find.{findOf, onlyOf, areaOf};
 ghost use Rattle.partitions.specs.Views.{findAnswer};
-ghost use Rattle.lookup.specs.Helpers.{matchedNext, matchedFound};
+ghost use Rattle.lookup.specs.Helpers.{matchedNext, matchedFound, seekOf};
 use errors::Error;
 use header::Header;
 use partitions::Cursor;
@@ -25,13 +24,14 @@ fn has_name(image: &[u8], at: usize, name: &[u8]) -> bool
     partition_name::matches_name(&image[start..end], name)
 }
 
-// The partitions that have matched so far.
+// The partitions that have matched so far, or why the image is refused.
 enum Matched {
     None,
     // The first.
     One(Partition),
     // A second one, where only one may match; its header is at this offset.
     Second { at: usize },
+    Refused(Error),
 }
 
 // The same after one more partition of the signature; its name is compared only where that can change them.
@@ -55,6 +55,7 @@ fn next_matched(matched: Matched, image: &[u8], p: Partition, name: &[u8], only:
             }
         }
         Matched::Second { at } => Matched::Second { at },
+        Matched::Refused(e) => Matched::Refused(e),
     }
 }
 
@@ -66,15 +67,16 @@ fn matched_found(matched: Matched) -> Found
         Matched::None => Found::Refused(Error::NoPartition),
         Matched::One(p) => Found::At(p),
         Matched::Second { at } => Found::Refused(Error::RepeatedPartition { at }),
+        Matched::Refused(e) => Found::Refused(e),
     }
 }
 
-// The partition that has this signature and a name that matches this one: the first, or the only one.
-fn seek(image: &[u8], signature: u8, name: &[u8], only: bool) -> Found
-    ensures { λ r. ⌜ r ≡ cond only (onlyOf (now (image .entry)) signature (now (name .entry))) (findOf (now (image .entry)) signature (now (name .entry))) ⌝ }
+// The partitions that have this signature and a name that matches this one, as far as they count.
+fn seek(image: &[u8], signature: u8, name: &[u8], only: bool) -> Matched
+    ensures { λ r. ⌜ matchedFound r ≡ seekOf only (now (image .entry)) signature (now (name .entry)) ⌝ }
 {
     if !partitions::allowed_length(image.len()) {
-        return Found::Refused(Error::ImageLength);
+        return Matched::Refused(Error::ImageLength);
     }
     let mut cursor = Cursor::start();
     let mut matched = Matched::None;
@@ -87,8 +89,8 @@ fn seek(image: &[u8], signature: u8, name: &[u8], only: bool) -> Found
                 }
                 cursor = next;
             }
-            Step::End => break matched_found(matched),
-            Step::Broken(e) => break Found::Refused(e),
+            Step::End => break matched,
+            Step::Broken(e) => break Matched::Refused(e),
         }
     }
 }
@@ -97,14 +99,14 @@ fn seek(image: &[u8], signature: u8, name: &[u8], only: bool) -> Found
 pub fn find(image: &[u8], signature: u8, name: &[u8]) -> Found
     ensures { λ r. ⌜ r ≡ findOf (now (image .entry)) signature (now (name .entry)) ⌝ }
 {
-    seek(image, signature, name, false)
+    matched_found(seek(image, signature, name, false))
 }
 
 // The only partition that has this signature and a name that matches this one; where a second one has, it is refused there.
 pub fn find_only(image: &[u8], signature: u8, name: &[u8]) -> Found
     ensures { λ r. ⌜ r ≡ onlyOf (now (image .entry)) signature (now (name .entry)) ⌝ }
 {
-    seek(image, signature, name, true)
+    matched_found(seek(image, signature, name, true))
 }
 
 // The data area of that partition as a part of the image, empty where it is refused; the code and the offset are stored.

@@ -47,26 +47,6 @@ module _ (image : List ℕ) (signature : ℕ) (name : List ℕ) where
   unfolding onlyMatch
   only-tail p ps e = rw e
 
-  -- the only one is the first one
-  before-first : (p q : Partition) (f : Found) → onlyUnless p f ≡ At q → p ≡ q
-  before-first p q (At r) e = clash (cc)
-  before-first p q (Refused x) e = cc
-
-  match-only : (p : Partition) (ps : List Partition) → onlyMatch image signature name ps ≡ At p → firstMatch image signature name ps ≡ At p
-  match-only p [] e = clash (cc (only-nothing))
-  match-only p (q ∷ ps) e =
-      split (matches image signature name (q .offset))
-      (λ t. match-head image signature name q ps t ∙ ap At (before-first q p (firstMatch image signature name ps) (sym (only-head q ps t) ∙ e)))
-      (λ t. match-tail image signature name q ps t ∙ match-only p ps (sym (only-tail q ps t) ∙ e))
-
-  pub only-found : (p : Partition) → onlyOf image signature name ≡ At p → findOf image signature name ≡ At p
-  unfolding onlyOf onlyBy findOf findBy
-  only-found p = go (walk image)
-    where
-      go : (w : Walk) → onlyBy image signature name w ≡ At p → findBy image signature name w ≡ At p
-      go (covered ps) e = match-only p ps e
-      go (broken x) e = e
-
   -- the only match of a list, by the rules
   record OnlyAmong (all : List Partition) (p : Partition) : Type 0 where
     before : List Partition
@@ -166,6 +146,26 @@ module _ (image : List ℕ) (signature : ℕ) (name : List ℕ) where
   only-none : (ps : List Partition) → NoneNamed image signature name ps → onlyMatch image signature name ps ≡ Refused NoPartition
   only-none [] u = only-nothing
   only-none (q ∷ ps) u = only-tail q ps (not-matches image signature name (q .offset) (u .0)) ∙ only-none ps (u .1)
+
+  -- the only one is the first one
+  unless-at : (p q : Partition) (f : Found) → onlyUnless p f ≡ At q → p ≡ q
+  unless-at p q (At r) e = clash (cc)
+  unless-at p q (Refused x) e = cc
+
+  match-only : (p : Partition) (ps : List Partition) → onlyMatch image signature name ps ≡ At p → firstMatch image signature name ps ≡ At p
+  match-only p [] e = clash (cc (only-nothing))
+  match-only p (q ∷ ps) e =
+      split (matches image signature name (q .offset))
+      (λ t. match-head image signature name q ps t ∙ ap At (unless-at q p (firstMatch image signature name ps) (sym (only-head q ps t) ∙ e)))
+      (λ t. match-tail image signature name q ps t ∙ match-only p ps (sym (only-tail q ps t) ∙ e))
+
+  pub only-found : (p : Partition) → onlyOf image signature name ≡ At p → findOf image signature name ≡ At p
+  unfolding onlyOf onlyBy findOf findBy
+  only-found p = go (walk image)
+    where
+      go : (w : Walk) → onlyBy image signature name w ≡ At p → findBy image signature name w ≡ At p
+      go (covered ps) e = match-only p ps e
+      go (broken x) e = e
 
   module _ (bytes : AllBytes image) where
     accepted-only : (ps : List Partition) → Accepted image ps → onlyOf image signature name ≡ onlyMatch image signature name ps

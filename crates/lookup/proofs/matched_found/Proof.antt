@@ -12,6 +12,9 @@ enum-known-matched c = search needs
 enum-known-matched-2 : tie.Need-enum-known-matched-2
 enum-known-matched-2 c = search needs
 
+enum-known-matched-3 : tie.Need-enum-known-matched-3
+enum-known-matched-3 c = search needs
+
 returns : tie.Need-returns
 returns c = rw (c .enum-told .given .1)
 
@@ -21,7 +24,18 @@ returns-2 c = rw (c .before .matched .given .1)
 returns-3 : tie.Need-returns-3
 returns-3 c = rw (c .before .matched2 .given .1)
 
+returns-4 : tie.Need-returns-4
+returns-4 c = rw (c .before .matched3 .given .1)
+
 pub matched-found-spec : {M : Type 1} → statement M
 matched-found-spec =
     tie.close
-    (tie.spec enum-told enum-known-matched enum-known-matched-2 returns returns-2 returns-3)
+    (tie.spec
+    enum-told
+    enum-known-matched
+    enum-known-matched-2
+    enum-known-matched-3
+    returns
+    returns-2
+    returns-3
+    returns-4)

@@ -20,6 +20,9 @@ has-name-requires-2 c κs = search needs
 enum-known-matched-2 : tie.Need-enum-known-matched-2
 enum-known-matched-2 c = search needs
 
+enum-known-matched-3 : tie.Need-enum-known-matched-3
+enum-known-matched-3 c = search needs
+
 returns : tie.Need-returns
 returns c =
     let h = c .before .has-name in
@@ -41,12 +44,15 @@ returns-4 : tie.Need-returns-4
 returns-4 c =
     let g = c .before .before .matched .given in
     elim (c .if2 .came) [
-      inl x ↦ next-only _ _ _ (x .1 .result) (x .1 .ensures) _ (g .0 .0) (g .1) (x .2 .left)
-    | inr x ↦ next-any _ _ _ (g .0 .0) (g .1) _ (x .left)
+      | inl x ↦ next-only _ _ _ (x .1 .result) (x .1 .ensures) _ (g .0 .0) (g .1) (x .2 .left)
+      | inr x ↦ next-any _ _ _ (g .0 .0) (g .1) _ (x .left)
     ]
 
 returns-5 : tie.Need-returns-5
 returns-5 c = rw (c .before .matched2 .given .1)
+
+returns-6 : tie.Need-returns-6
+returns-6 c = rw (c .before .matched3 .given .1)
 
 pub next-matched-spec : {M : Type 1} → statement M
 next-matched-spec =
@@ -57,8 +63,10 @@ next-matched-spec =
     enum-known-matched
     has-name-requires-2
     enum-known-matched-2
+    enum-known-matched-3
     returns
     returns-2
     returns-3
     returns-4
-    returns-5)
+    returns-5
+    returns-6)

@@ -14,7 +14,8 @@ use Rattle.partitions.specs.declared.Found.the-variants.{Refused}
 use Rattle.partitions.proofs.WalkLaws.{next-bounds, rest, onWalk, loop-next, loop-end, loop-broken}
 use Rattle.lookup.specs.declared.Matched.{Matched}
 use Rattle.lookup.specs.declared.Matched.the-variants.{None}
-use Rattle.lookup.proofs.SeekLaws.{whole-header, seekName, seekOf, seek-refused, seek-start, seek-signed, seek-other}
+use Rattle.lookup.specs.Helpers.{seekOf}
+use Rattle.lookup.proofs.SeekLaws.{whole-header, seekName, seek-refused, seek-start, seek-signed, seek-other}
 use borrow.Author.Needs.{needs}
 use Rattle.lookup.proofs.seek.Statement.{statement}
 use Rattle.lookup.proofs.seek.Tie as tie
@@ -128,19 +129,14 @@ loop-again-2 c =
 enum-told : tie.Need-enum-told Inv-loop μ-loop
 enum-told c = search needs
 
-matched-found-requires : tie.Need-matched-found-requires Inv-loop μ-loop
-matched-found-requires c κs = search needs
-
 enum-known-step-2 : tie.Need-enum-known-step-2 Inv-loop μ-loop
 enum-known-step-2 c = search needs
 
 returns-2 : tie.Need-returns-2 Inv-loop μ-loop
 returns-2 c =
-    let t = c .before in
-    let s = t .before .before in
+    let s = c .before .before in
     let l = s .before in
-    c .matched-found .ensures
-    ∙ loop-end (imageOf s) (l .loop .cursor .at) (seek s (l .loop .matched)) Refused _ (l .loop .inv) (sym (s .step .ensures) ∙ t .enum-told .given .1)
+    loop-end (imageOf s) (l .loop .cursor .at) (seek s (l .loop .matched)) Refused _ (l .loop .inv) (sym (s .step .ensures) ∙ c .enum-told .given .1)
 
 returns-3 : tie.Need-returns-3 Inv-loop μ-loop
 returns-3 c =
@@ -168,7 +164,6 @@ seek-spec =
     loop-less-2
     loop-again-2
     enum-told
-    matched-found-requires
     enum-known-step-2
     returns-2
     returns-3)

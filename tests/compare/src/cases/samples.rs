@@ -85,9 +85,11 @@ fn ask(ctx: &mut Context, image: &[u8]) -> Result<Vec<u8>, Failure> {
     Ok(reply.buffer[..reply.amounts[0]].to_vec())
 }
 
-/// A card with a copy of itself behind it: where it has a `common`, every call on variables answers 20 at the copy's.
+/// A card has at most one `common`; with a copy of itself behind it every call on variables answers 20 at the copy's.
 fn card_twice(ctx: &mut Context, card: &[u8], copy: &[u8]) -> Outcome {
     let mut twin = Twin::new(card);
+    let count = twin.call(ctx, &Request::Count)?;
+    ctx.same("a second `common` on the card", count.code == 20, false)?;
     let partitions = twin.call(ctx, &Request::Check)?.amounts[0];
     let find = Request::Find(0x70, b"common".to_vec());
     let first = twin.call(ctx, &find)?;
