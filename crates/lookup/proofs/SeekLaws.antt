@@ -25,7 +25,6 @@ use Rattle.partitions.proofs.FoundLaws.{matches-signed, matches-other, find-wal
 use Rattle.partitions.proofs.OnlyLaws.{only-walk, only-covered, only-broken, only-nothing, only-head, only-tail}
 use Rattle.lookup.specs.declared.Matched.{Matched}
 use Rattle.lookup.specs.declared.Matched.the-variants.{None, One, Second}
-use Rattle.lookup.specs.declared.Matched.the-variants as Matched
 use Rattle.lookup.specs.Helpers.{matchedNext, matchedFound, seekOf}
 
 -- the name in the image, where the header is whole
@@ -151,4 +150,3 @@ module _ (only : Bool) (image : List ℕ) (signature : ℕ) (name : List ℕ) wh
         unwanted true (One q) = refl
         unwanted false (One q) = refl
         unwanted o (Second at) = refl
-        unwanted o (Matched.Refused e) = refl

@@ -8,21 +8,26 @@ use Rattle.partitions.specs.declared.Found.{Found}
 use Rattle.partitions.specs.declared.Found.the-variants.{At, Refused}
 use Rattle.partitions.specs.Find.{findOf, onlyOf}
 use Rattle.lookup.specs.declared.Matched.{Matched}
-use Rattle.lookup.specs.declared.Matched.the-variants as Matched
+use Rattle.lookup.specs.declared.Matched.the-variants.{None, One, Second}
+use Rattle.lookup.specs.declared.Searched.{Searched}
+use Rattle.lookup.specs.declared.Searched.the-variants as Searched
 
 -- after one more partition, which matches or not; only: whether a second match counts
 abbrev pub matchedNext : Bool → Matched → Bool → Partition → Matched
-matchedNext only Matched.None matches p = cond matches (Matched.One p) Matched.None
-matchedNext only (Matched.One q) matches p = cond (only && matches) (Matched.Second (p .offset)) (Matched.One q)
-matchedNext only (Matched.Second at) matches p = Matched.Second at
-matchedNext only (Matched.Refused e) matches p = Matched.Refused e
+matchedNext only None matches p = cond matches (One p) None
+matchedNext only (One q) matches p = cond (only && matches) (Second (p .offset)) (One q)
+matchedNext only (Second at) matches p = Second at
 
 -- what is found, after all partitions
 abbrev pub matchedFound : Matched → Found
-matchedFound Matched.None = Refused NoPartition
-matchedFound (Matched.One p) = At p
-matchedFound (Matched.Second at) = Refused (RepeatedPartition at)
-matchedFound (Matched.Refused e) = Refused e
+matchedFound None = Refused NoPartition
+matchedFound (One p) = At p
+matchedFound (Second at) = Refused (RepeatedPartition at)
+
+-- what is found by a search
+abbrev pub searchedFound : Searched → Found
+searchedFound (Searched.All matched) = matchedFound matched
+searchedFound (Searched.Refused e) = Refused e
 
 -- the only partition of a signature and a name, or the first
 abbrev pub seekOf : Bool → List ℕ → ℕ → List ℕ → Found

@@ -6,7 +6,7 @@ ghost use Rattle.header.specs.Header.{headerAt};
 ghost use Rattle.partition_name.specs.Name.{matchesName};
 ghost use Rattle.partitions.specs.Find.{findOf, onlyOf, areaOf};
 ghost use Rattle.partitions.specs.Views.{findAnswer};
-ghost use Rattle.lookup.specs.Helpers.{matchedNext, matchedFound, seekOf};
+ghost use Rattle.lookup.specs.Helpers.{matchedNext, searchedFound, seekOf};
 use errors::Error;
 use header::Header;
 use partitions::Cursor;
@@ -24,13 +24,18 @@ fn has_name(image: &[u8], at: usize, name: &[u8]) -> bool
     partition_name::matches_name(&image[start..end], name)
 }
 
-// The partitions that have matched so far, or why the image is refused.
+// The partitions that have matched so far.
 enum Matched {
     None,
     // The first.
     One(Partition),
     // A second one, where only one may match; its header is at this offset.
     Second { at: usize },
+}
+
+// What a search has met: the matches among all partitions, or why the image is refused.
+enum Searched {
+    All(Matched),
     Refused(Error),
 }
 
@@ -55,28 +60,29 @@ fn next_matched(matched: Matched, image: &[u8], p: Partition, name: &[u8], only:
             }
         }
         Matched::Second { at } => Matched::Second { at },
-        Matched::Refused(e) => Matched::Refused(e),
     }
 }
 
-// What is found, after all partitions.
-fn matched_found(matched: Matched) -> Found
-    ensures { λ r. ⌜ r ≡ matchedFound matched ⌝ }
+// What is found by a search.
+fn searched_found(searched: Searched) -> Found
+    ensures { λ r. ⌜ r ≡ searchedFound searched ⌝ }
 {
-    match matched {
-        Matched::None => Found::Refused(Error::NoPartition),
-        Matched::One(p) => Found::At(p),
-        Matched::Second { at } => Found::Refused(Error::RepeatedPartition { at }),
-        Matched::Refused(e) => Found::Refused(e),
+    match searched {
+        Searched::All(matched) => match matched {
+            Matched::None => Found::Refused(Error::NoPartition),
+            Matched::One(p) => Found::At(p),
+            Matched::Second { at } => Found::Refused(Error::RepeatedPartition { at }),
+        },
+        Searched::Refused(e) => Found::Refused(e),
     }
 }
 
-// The partitions that have this signature and a name that matches this one, as far as they count.
-fn seek(image: &[u8], signature: u8, name: &[u8], only: bool) -> Matched
-    ensures { λ r. ⌜ matchedFound r ≡ seekOf only (now (image .entry)) signature (now (name .entry)) ⌝ }
+// A search for this signature and a name that matches this one: for the first partition, or for the only one.
+fn seek(image: &[u8], signature: u8, name: &[u8], only: bool) -> Searched
+    ensures { λ r. ⌜ searchedFound r ≡ seekOf only (now (image .entry)) signature (now (name .entry)) ⌝ }
 {
     if !partitions::allowed_length(image.len()) {
-        return Matched::Refused(Error::ImageLength);
+        return Searched::Refused(Error::ImageLength);
     }
     let mut cursor = Cursor::start();
     let mut matched = Matched::None;
@@ -89,8 +95,8 @@ fn seek(image: &[u8], signature: u8, name: &[u8], only: bool) -> Matched
                 }
                 cursor = next;
             }
-            Step::End => break matched,
-            Step::Broken(e) => break Matched::Refused(e),
+            Step::End => break Searched::All(matched),
+            Step::Broken(e) => break Searched::Refused(e),
         }
     }
 }
@@ -99,14 +105,14 @@ fn seek(image: &[u8], signature: u8, name: &[u8], only: bool) -> Matched
 pub fn find(image: &[u8], signature: u8, name: &[u8]) -> Found
     ensures { λ r. ⌜ r ≡ findOf (now (image .entry)) signature (now (name .entry)) ⌝ }
 {
-    matched_found(seek(image, signature, name, false))
+    searched_found(seek(image, signature, name, false))
 }
 
 // The only partition that has this signature and a name that matches this one; where a second one has, it is refused there.
 pub fn find_only(image: &[u8], signature: u8, name: &[u8]) -> Found
     ensures { λ r. ⌜ r ≡ onlyOf (now (image .entry)) signature (now (name .entry)) ⌝ }
 {
-    matched_found(seek(image, signature, name, true))
+    searched_found(seek(image, signature, name, true))
 }
 
 // The data area of that partition as a part of the image, empty where it is refused; the code and the offset are stored.

@@ -7,11 +7,11 @@ use Rattle.lookup.proofs.find_only.Tie as tie
 seek-requires : tie.Need-seek-requires
 seek-requires c κs = search needs
 
-matched-found-requires : tie.Need-matched-found-requires
-matched-found-requires c κs = search needs
+searched-found-requires : tie.Need-searched-found-requires
+searched-found-requires c κs = search needs
 
 returns : tie.Need-returns
-returns c = c .matched-found .ensures ∙ c .before .seek .ensures
+returns c = c .searched-found .ensures ∙ c .before .seek .ensures
 
 pub find-only-spec : {M : Type 1} → statement M
-find-only-spec = tie.close (tie.spec seek-requires matched-found-requires returns)
+find-only-spec = tie.close (tie.spec seek-requires searched-found-requires returns)

@@ -20,9 +20,6 @@ has-name-requires-2 c κs = search needs
 enum-known-matched-2 : tie.Need-enum-known-matched-2
 enum-known-matched-2 c = search needs
 
-enum-known-matched-3 : tie.Need-enum-known-matched-3
-enum-known-matched-3 c = search needs
-
 returns : tie.Need-returns
 returns c =
     let h = c .before .has-name in
@@ -51,9 +48,6 @@ returns-4 c =
 returns-5 : tie.Need-returns-5
 returns-5 c = rw (c .before .matched2 .given .1)
 
-returns-6 : tie.Need-returns-6
-returns-6 c = rw (c .before .matched3 .given .1)
-
 pub next-matched-spec : {M : Type 1} → statement M
 next-matched-spec =
     tie.close
@@ -63,10 +57,8 @@ next-matched-spec =
     enum-known-matched
     has-name-requires-2
     enum-known-matched-2
-    enum-known-matched-3
     returns
     returns-2
     returns-3
     returns-4
-    returns-5
-    returns-6)
+    returns-5)
