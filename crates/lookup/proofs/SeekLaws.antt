@@ -1,7 +1,7 @@
 -- The loop that looks for a partition by its signature and name.
 use Prim.Native.Nat.{ℕ, _+_, _-_, _≤_}
 use mathlib.Core.Path.{_≡_, ap, refl, sym, _∙_}
-use mathlib.Core.Bool.{Bool, true, false, cond}
+use mathlib.Core.Bool.{Bool, true, false, _&&_, cond}
 use mathlib.Core.List.{List, [], _∷_}
 use native.Mathlib.Omega.{arith}
 use lib.ListN.{length, take, drop}
@@ -25,7 +25,7 @@ use Rattle.partitions.proofs.FoundLaws.{matches-signed, matches-other, find-wal
 use Rattle.partitions.proofs.OnlyLaws.{only-walk, only-covered, only-broken, only-nothing, only-head, only-tail}
 use Rattle.lookup.specs.declared.Matched.{Matched}
 use Rattle.lookup.specs.declared.Matched.the-variants.{None, One, Second}
-use Rattle.lookup.specs.Helpers.{matchedNext, matchedFound, seekOf}
+use Rattle.lookup.specs.Helpers.{oneMoreCounts, withMatch, matchedFound, seekOf}
 
 -- the name in the image, where the header is whole
 pub header-name : (image : List ℕ) (at : ℕ) → at + 16 ≤ length image → (name : List ℕ) (r : Bool)
@@ -37,25 +37,20 @@ header-name image at h name r e =
 pub whole-header : (image : List ℕ) (at : ℕ) (p : Partition) (c : Cursor) → stepAt image at ≡ Next p c → p .offset + 16 ≤ length image
 whole-header image at p c e = let g = next-goes image at p c e in omega (arith, g .here, g .some, g .past, g .inside)
 
--- one more partition p, by whether its name matches, which r says
-module _ (only : Bool) (m : Matched) (b r : Bool) (e : r ≡ b) (p : Partition) where
-  pub next-none : m ≡ None → r ≡ false → None ≡ matchedNext only m b p
-  next-none q z = rw (q, ← e, z)
+-- after one more partition, which matches or not
+abbrev matchedNext : Bool → Matched → Bool → Partition → Matched
+matchedNext only matched matches p = cond (oneMoreCounts only matched && matches) (withMatch matched p) matched
 
-  pub next-first : m ≡ None → r ≡ true → One p ≡ matchedNext only m b p
-  next-first q z = rw (q, ← e, z)
+-- a partition p, by whether one more match counts, which k says, and whether its name matches, which r says
+module _ (only : Bool) (m : Matched) (b k : Bool) (ek : k ≡ oneMoreCounts only m) (p : Partition) where
+  pub next-match : (r : Bool) → r ≡ b → k ≡ true → r ≡ true → (n : Matched) → n ≡ withMatch m p → n ≡ matchedNext only m b p
+  next-match r er c z n en = en ∙ (λ i. cond ((sym c ∙ ek) i && (sym z ∙ er) i) (withMatch m p) m)
 
-  module _ (first : Partition) (q : m ≡ One first) where
-    pub next-second : only ≡ true → r ≡ true → Second (p .offset) ≡ matchedNext only m b p
-    next-second o z = rw (q, o, ← e, z)
+  pub next-other : (r : Bool) → r ≡ b → k ≡ true → r ≡ false → m ≡ matchedNext only m b p
+  next-other r er c z = λ i. cond ((sym c ∙ ek) i && (sym z ∙ er) i) (withMatch m p) m
 
-    pub next-only : r ≡ false → One first ≡ matchedNext only m b p
-    next-only z = split only (λ o. rw (q, o, ← e, z)) (λ o. rw (q, o))
-
--- a second one does not count
-module _ (m : Matched) (b : Bool) (p first : Partition) (q : m ≡ One first) where
-  pub next-any : (only : Bool) → only ≡ false → One first ≡ matchedNext only m b p
-  next-any only o = rw (q, o)
+  pub next-uncounted : k ≡ false → m ≡ matchedNext only m b p
+  next-uncounted c = λ i. cond ((sym c ∙ ek) i && b) (withMatch m p) m
 
 -- what is found by what has matched so far and the partitions that are left
 abbrev pub seekName : Bool → List ℕ → ℕ → List ℕ → Matched → List Partition → Found

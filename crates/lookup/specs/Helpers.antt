@@ -1,6 +1,6 @@
 -- For the loop over the partitions: those that have matched so far, and what it answers.
 use Prim.Native.Nat.{ℕ}
-use mathlib.Core.Bool.{Bool, _&&_, cond}
+use mathlib.Core.Bool.{Bool, true, false, cond}
 use mathlib.Core.List.{List}
 use Rattle.errors.specs.declared.Error.the-variants.{NoPartition, RepeatedPartition}
 use Rattle.partitions.specs.declared.Partition.{Partition}
@@ -12,11 +12,17 @@ use Rattle.lookup.specs.declared.Matched.the-variants.{None, One, Second
 use Rattle.lookup.specs.declared.Searched.{Searched}
 use Rattle.lookup.specs.declared.Searched.the-variants as Searched
 
--- after one more partition, which matches or not; only: whether a second match counts
-abbrev pub matchedNext : Bool → Matched → Bool → Partition → Matched
-matchedNext only None matches p = cond matches (One p) None
-matchedNext only (One q) matches p = cond (only && matches) (Second (p .offset)) (One q)
-matchedNext only (Second at) matches p = Second at
+-- whether one more match counts; only: whether only one may match
+abbrev pub oneMoreCounts : Bool → Matched → Bool
+oneMoreCounts only None = true
+oneMoreCounts only (One q) = only
+oneMoreCounts only (Second at) = false
+
+-- with one more match
+abbrev pub withMatch : Matched → Partition → Matched
+withMatch None p = One p
+withMatch (One q) p = Second (p .offset)
+withMatch (Second at) p = Second at
 
 -- what is found, after all partitions
 abbrev pub matchedFound : Matched → Found

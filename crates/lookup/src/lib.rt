@@ -6,7 +6,7 @@ ghost use Rattle.header.specs.Header.{headerAt};
 ghost use Rattle.partition_name.specs.Name.{matchesName};
 ghost use Rattle.partitions.specs.Find.{findOf, onlyOf, areaOf};
 ghost use Rattle.partitions.specs.Views.{findAnswer};
-ghost use Rattle.lookup.specs.Helpers.{matchedNext, searchedFound, seekOf};
+ghost use Rattle.lookup.specs.Helpers.{oneMoreCounts, withMatch, searchedFound, seekOf};
 use errors::Error;
 use header::Header;
 use partitions::Cursor;
@@ -39,26 +39,24 @@ enum Searched {
     Refused(Error),
 }
 
-// The same after one more partition of the signature; its name is compared only where that can change them.
-fn next_matched(matched: Matched, image: &[u8], p: Partition, name: &[u8], only: bool) -> Matched
-    requires { ⌜ p .offset + 16 ≤ len (now image) ⌝ }
-    ensures { λ r. ⌜ r ≡ matchedNext only matched (matchesName (headerAt (now (image .entry)) (p .offset) .name) (now (name .entry))) p ⌝ }
+// Whether one more match counts: the first does, and a second one where only one may match.
+fn counts(matched: Matched, only: bool) -> bool
+    ensures { λ r. ⌜ r ≡ oneMoreCounts only matched ⌝ }
 {
     match matched {
-        Matched::None => {
-            if has_name(image, p.offset, name) {
-                Matched::One(p)
-            } else {
-                Matched::None
-            }
-        }
-        Matched::One(q) => {
-            if only && has_name(image, p.offset, name) {
-                Matched::Second { at: p.offset }
-            } else {
-                Matched::One(q)
-            }
-        }
+        Matched::None => true,
+        Matched::One(_) => only,
+        Matched::Second { at: _ } => false,
+    }
+}
+
+// The partitions that have matched, with one more.
+fn with_match(matched: Matched, p: Partition) -> Matched
+    ensures { λ r. ⌜ r ≡ withMatch matched p ⌝ }
+{
+    match matched {
+        Matched::None => Matched::One(p),
+        Matched::One(_first) => Matched::Second { at: p.offset },
         Matched::Second { at } => Matched::Second { at },
     }
 }
@@ -90,8 +88,11 @@ fn seek(image: &[u8], signature: u8, name: &[u8], only: bool) -> Searched
         let step = cursor.step(image);
         match step {
             Step::Next(p, next) => {
-                if Header::signature_at(image, p.offset) == signature {
-                    matched = next_matched(matched, image, p, name, only);
+                if Header::signature_at(image, p.offset) == signature
+                    && counts(matched, only)
+                    && has_name(image, p.offset, name)
+                {
+                    matched = with_match(matched, p);
                 }
                 cursor = next;
             }

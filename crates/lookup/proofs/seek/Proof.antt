@@ -2,6 +2,7 @@
 use Prim.Native.Nat.{ℕ, _-_, _<_, _≤_}
 use mathlib.Core.Path.{_≡_, sym, _∙_, subst}
 use mathlib.Core.List.{List, _∷_}
+use mathlib.Core.Logic.{inl, inr}
 use native.Mathlib.Omega.{arith}
 use lib.ListN.{length}
 use denote.Ref.{now}
@@ -15,7 +16,7 @@ use Rattle.partitions.proofs.WalkLaws.{next-bounds, rest, onWalk, loop-next, lo
 use Rattle.lookup.specs.declared.Matched.{Matched}
 use Rattle.lookup.specs.declared.Matched.the-variants.{None}
 use Rattle.lookup.specs.Helpers.{seekOf}
-use Rattle.lookup.proofs.SeekLaws.{whole-header, seekName, seek-refused, seek-start, seek-signed, seek-other}
+use Rattle.lookup.proofs.SeekLaws.{whole-header, seekName, seek-refused, seek-start, seek-signed, seek-other, next-match, next-other, next-uncounted}
 use borrow.Author.Needs.{needs}
 use Rattle.lookup.proofs.seek.Statement.{statement}
 use Rattle.lookup.proofs.seek.Tie as tie
@@ -87,44 +88,65 @@ enum-known-step c = search needs
 signature-at-requires : tie.Need-signature-at-requires Inv-loop μ-loop
 signature-at-requires c κs = search needs
 
-next-matched-requires : tie.Need-next-matched-requires Inv-loop μ-loop
-next-matched-requires c κs =
-    let t = c .before .before in
-    let s = t .before .before .before in
-    let g = t .before .step2 .given in
-    whole-header (imageOf s) (s .before .loop .cursor .at) (g .0 .0) (g .0 .1 .0) (sym (s .step .ensures) ∙ g .1)
+counts-requires : tie.Need-counts-requires Inv-loop μ-loop
+counts-requires c κs = search needs
+
+has-name-requires : tie.Need-has-name-requires Inv-loop μ-loop
+has-name-requires c κs =
+    let h = c .before .before .before in
+    let s = h .before .before .before .before in
+    let g = h .before .before .step2 .given in
+    omega (arith, whole-header (imageOf s) (s .before .loop .cursor .at) (g .0 .0) (g .0 .1 .0) (sym (s .step .ensures) ∙ g .1))
+
+with-match-requires : tie.Need-with-match-requires Inv-loop μ-loop
+with-match-requires c κs = search needs
 
 loop-less : tie.Need-loop-less Inv-loop μ-loop
 loop-less c =
-    let t = c .before .before .before in
-    let g = t .before .step2 .given in
-    omega (arith, on (t .before .before .before) (g .0 .0) (g .0 .1 .0) (g .1))
+    let h = c .before .before .before .before .before .before in
+    let g = h .before .before .step2 .given in
+    omega (arith, on (h .before .before .before .before) (g .0 .0) (g .0 .1 .0) (g .1))
 
 loop-again : tie.Need-loop-again Inv-loop μ-loop
 loop-again c =
-    let h = c .before .before in
+    let n = c .before .before in
+    let k = n .before .before in
+    let h = k .before .before in
     let s = h .before .before .before .before in
     let a = s .before .before .before .before .before .before .before .args in
     let g = h .before .before .step2 .given in
-    turn s (g .0 .0) (g .0 .1 .0) (g .1) (c .next-matched .result)
-    (λ ps. seek-signed (a .only) (imageOf s) (a .signature) (now (a .name)) (s .before .loop .matched) (g .0 .0) ps
-    (h .signature-at .result) (h .signature-at .ensures) (c .before .if2 .taken) (c .next-matched .result) (c .next-matched .ensures))
+    let m = s .before .loop .matched in
+    turn s (g .0 .0) (g .0 .1 .0) (g .1) (c .with-match .result)
+    (λ ps. seek-signed (a .only) (imageOf s) (a .signature) (now (a .name)) m (g .0 .0) ps
+    (h .signature-at .result) (h .signature-at .ensures) (k .before .if2 .taken) (c .with-match .result)
+    (next-match (a .only) m _ (k .counts .result) (k .counts .ensures) (g .0 .0) (n .has-name .result) (n .has-name .ensures)
+    (n .before .if3 .taken) (c .before .if4 .taken) (c .with-match .result) (c .with-match .ensures)))
 
 loop-less-2 : tie.Need-loop-less-2 Inv-loop μ-loop
 loop-less-2 c =
-    let t = c .before .before in
-    let g = t .before .step2 .given in
-    omega (arith, on (t .before .before .before) (g .0 .0) (g .0 .1 .0) (g .1))
+    let h = c .before in
+    let g = h .before .before .step2 .given in
+    omega (arith, on (h .before .before .before .before) (g .0 .0) (g .0 .1 .0) (g .1))
 
+-- another name, a match that does not count, or another signature
 loop-again-2 : tie.Need-loop-again-2 Inv-loop μ-loop
 loop-again-2 c =
     let h = c .before in
     let s = h .before .before .before .before in
     let a = s .before .before .before .before .before .before .before .args in
     let g = h .before .before .step2 .given in
-    turn s (g .0 .0) (g .0 .1 .0) (g .1) (s .before .loop .matched)
-    (λ ps. seek-other (a .only) (imageOf s) (a .signature) (now (a .name)) (s .before .loop .matched) (g .0 .0) ps
-    (h .signature-at .result) (h .signature-at .ensures) (c .if2 .left))
+    let m = s .before .loop .matched in
+    turn s (g .0 .0) (g .0 .1 .0) (g .1) m
+    (λ ps. elim (c .if2 .came) [
+      | inl x ↦
+          seek-signed (a .only) (imageOf s) (a .signature) (now (a .name)) m (g .0 .0) ps (h .signature-at .result) (h .signature-at .ensures) (x .0 .taken) m
+          (next-other (a .only) m _ (x .1 .result) (x .1 .ensures) (g .0 .0) (x .3 .result) (x .3 .ensures) (x .2 .taken) (x .4 .left))
+      | inr (inl x) ↦
+          seek-signed (a .only) (imageOf s) (a .signature) (now (a .name)) m (g .0 .0) ps (h .signature-at .result) (h .signature-at .ensures) (x .0 .taken) m
+          (next-uncounted (a .only) m _ (x .1 .result) (x .1 .ensures) (g .0 .0) (x .2 .left))
+      | inr (inr x) ↦
+          seek-other (a .only) (imageOf s) (a .signature) (now (a .name)) m (g .0 .0) ps (h .signature-at .result) (h .signature-at .ensures) (x .left)
+    ])
 
 enum-told : tie.Need-enum-told Inv-loop μ-loop
 enum-told c = search needs
@@ -158,7 +180,9 @@ seek-spec =
     step-requires
     enum-known-step
     signature-at-requires
-    next-matched-requires
+    counts-requires
+    has-name-requires
+    with-match-requires
     loop-less
     loop-again
     loop-less-2
