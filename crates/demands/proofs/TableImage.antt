@@ -1,4 +1,4 @@
--- Rows 1 to 4, 6, 11 and 20 of the table for every request, and the rows of the image check, of a partition and of its area.
+-- Rows 1 to 4, 6 and 11 of the table for every request, row 20, and the rows of the image check, of a partition and of its area.
 use Prim.Native.Nat.{ℕ}
 use mathlib.Core.Path.{_≡_, refl, sym, ap, subst, _∙_}
 use mathlib.Core.Logic.{_⊎_, inl, inr}
@@ -90,7 +90,7 @@ unfound-row call I e w (absent n) = Answers.six w (no-common n)
 
 missed-common : {I : List ℕ} {call : Call} {e : Error} → Missed I (variable call) e → NotOnlyCommon I e
 missed-common (inl r) = rejected r
-missed-common {I} {call} (inr (q, no-common n)) = rw q (absent n)
+missed-common (inr (q, no-common n)) = rw q (absent n)
 
 absent-index : {I : List ℕ} {n : ℕ} → Absent I (partition n) → NotIndexed I n
 absent-index (no-index n) = n

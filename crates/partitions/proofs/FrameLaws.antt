@@ -25,7 +25,7 @@ use Rattle.partitions.specs.declared.Step.the-variants.{Next, End, Broke
 use Rattle.partitions.specs.declared.Found.{Found}
 use Rattle.partitions.specs.declared.Found.the-variants.{At, Refused}
 use Rattle.partitions.specs.Walk.{partitionOf, pastOf, stepAt, Walk, covered, broken, first, onStep, walkFrom, allowedLength, walk}
-use Rattle.partitions.specs.Find.{matches, firstMatch, findBy, findOf, onlyUnless, onlyMatch, onlyBy, onlyOf, areaOf}
+use Rattle.partitions.specs.Find.{matches, firstMatch, onlyUnless, onlyMatch, onlyBy, onlyOf, areaOf}
 use Rattle.partitions.specs.Cover.{pastAt, areaAt, OutsideKept}
 use Rattle.partitions.proofs.WalkLaws.{View, ends, goes, breaks, view, past-bounds}
 use Rattle.partitions.proofs.AreaLaws.{Among, among-inside, area-long, area-back}
@@ -228,14 +228,7 @@ module _ (I : List ℕ) (p : Partition) (m : Among I p) where
     pub among-kept : Among J p
     among-kept = record { before = m .before; after = m .after; walks = walk-kept ∙ m .walks }
 
-    -- and what is found by a signature and a name is the same, the first and the only one
-    pub find-kept : (signature : ℕ) (name : List ℕ) → findOf J signature name ≡ findOf I signature name
-    unfolding findOf findBy
-    find-kept signature name =
-        ap (findBy J signature name) (walk-kept ∙ m .walks)
-        ∙ sym (first-same I J (sym (k .long)) signature name (m .before ++ p ∷ m .after) (again .headers))
-        ∙ ap (findBy I signature name) (sym (m .walks))
-
+    -- and the only partition of a signature and a name is the same
     pub only-kept : (signature : ℕ) (name : List ℕ) → onlyOf J signature name ≡ onlyOf I signature name
     unfolding onlyOf onlyBy
     only-kept signature name =
