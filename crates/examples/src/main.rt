@@ -1,4 +1,5 @@
-// Runs example 12, and fills the greatest partition to its last byte; prints what the library answers.
+// Runs example 12, fills the greatest partition to its last byte, and tries it with a second `common` behind it; prints what the
+// library answers.
 ghost use mathlib.Core.Path.{_≡_};
 ghost use lib.ListN.{length};
 use header::Blocks;
@@ -10,20 +11,25 @@ use variables::Fetched;
 // The greatest image: 65,536 blocks.
 const BLOCKS: u32 = 65536;
 
-const BYTES: usize = 1048576;
+// The signatures of the partition that holds the variables, and of a free partition.
+const COMMON: u8 = 0x70;
+
+const FREE: u8 = 0x7F;
 
 fn main() {
     let mut image = blank_image();
-    put_header(&mut image, 0, 4096);
+    put_header(&mut image, 0, COMMON, 4096);
     area_of(&image, 4096);
-    put_header(&mut image, 0, Header::MAX_LENGTH);
+    put_header(&mut image, 0, COMMON, Header::MAX_LENGTH);
     area_of(&image, Header::MAX_LENGTH);
     write_check(&image, b"65535 blocks and a zero block: ");
-    put_header(&mut image, 1048560, 1);
+    put_header(&mut image, 1048560, COMMON, 1);
     write_check(&image, b"65535 and 1 blocks: ");
     let mut value = blank_image();
+    set_first(&mut image, &value, 0);
+    put_header(&mut image, 1048560, FREE, 1);
     fill_and_read(&mut image, &mut value);
-    put_header(&mut image, 0, BLOCKS);
+    put_header(&mut image, 0, COMMON, BLOCKS);
     write_check(&image, b"65536 blocks in one header: ");
 }
 
@@ -34,10 +40,10 @@ fn blank_image() -> [u8; 1048576]
     [0; 1048576]
 }
 
-// Writes the header of a partition `common` of so many blocks at an offset, where there is room for it.
-fn put_header(image: &mut [u8], at: usize, blocks: u32) {
+// Writes the header of a partition of this signature, with the name `common` and so many blocks, at an offset where there is room.
+fn put_header(image: &mut [u8], at: usize, signature: u8, blocks: u32) {
     let name = [99, 111, 109, 109, 111, 110, 0, 0, 0, 0, 0, 0];
-    let made = Header::new(0x70, Blocks(blocks), name);
+    let made = Header::new(signature, Blocks(blocks), name);
     let h = made.header;
     let high = (blocks / 256 % 256) as u8;
     let low = (blocks % 256) as u8;
