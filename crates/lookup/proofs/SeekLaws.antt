@@ -41,17 +41,6 @@ whole-header image at p c e = let g = next-goes image at p c e in omega (arith, 
 abbrev matchedNext : Bool → Matched → Bool → Partition → Matched
 matchedNext only matched matches p = cond (oneMoreCounts only matched && matches) (withMatch matched p) matched
 
--- a partition p, by whether one more match counts, which k says, and whether its name matches, which r says
-module _ (only : Bool) (m : Matched) (b k : Bool) (ek : k ≡ oneMoreCounts only m) (p : Partition) where
-  pub next-match : (r : Bool) → r ≡ b → k ≡ true → r ≡ true → (n : Matched) → n ≡ withMatch m p → n ≡ matchedNext only m b p
-  next-match r er c z n en = en ∙ (λ i. cond ((sym c ∙ ek) i && (sym z ∙ er) i) (withMatch m p) m)
-
-  pub next-other : (r : Bool) → r ≡ b → k ≡ true → r ≡ false → m ≡ matchedNext only m b p
-  next-other r er c z = λ i. cond ((sym c ∙ ek) i && (sym z ∙ er) i) (withMatch m p) m
-
-  pub next-uncounted : k ≡ false → m ≡ matchedNext only m b p
-  next-uncounted c = λ i. cond ((sym c ∙ ek) i && b) (withMatch m p) m
-
 -- what is found by what has matched so far and the partitions that are left
 abbrev pub seekName : Bool → List ℕ → ℕ → List ℕ → Matched → List Partition → Found
 seekName only image signature name matched [] = matchedFound matched
@@ -124,24 +113,44 @@ module _ (only : Bool) (image : List ℕ) (signature : ℕ) (name : List ℕ) wh
   seek-start a =
       seek-on (rest image 0) ∙ sym (seek-walk image signature name only ∙ ap (byWalk only image signature name) (walk-rest image a))
 
-  -- a turn of the loop, where the signature agrees and where not
-  module _ (matched : Matched) (p : Partition) (ps : List Partition) (s : ℕ) (es : s ≡ headerAt image (p .offset) .signature) where
-    pub seek-signed : s ≡ signature → (r : Matched)
-        → r ≡ matchedNext only matched (matchesName (headerAt image (p .offset) .name) name) p
-        → seekName only image signature name matched (p ∷ ps) ≡ seekName only image signature name r ps
-    seek-signed e r er =
-        ap (λ (b : Bool). seekName only image signature name (matchedNext only matched b p) ps)
-        (matches-signed image (p .offset) signature name (sym es ∙ e))
-        ∙ ap (λ (x : Matched). seekName only image signature name x ps) (sym er)
+  -- a turn of the loop at p, where its signature and its name are s and r, and k says whether one more match counts
+  module _ (m : Matched) (p : Partition) (ps : List Partition) (s : ℕ) (es : s ≡ headerAt image (p .offset) .signature) where
+    turned : (b : Bool) → matches image signature name (p .offset) ≡ b
+        → seekName only image signature name m (p ∷ ps) ≡ seekName only image signature name (matchedNext only m b p) ps
+    turned b e = ap (λ (x : Bool). seekName only image signature name (matchedNext only m x p) ps) e
 
-    pub seek-other : (s ≡ signature → ⊥) → seekName only image signature name matched (p ∷ ps) ≡ seekName only image signature name matched ps
-    seek-other d =
-        ap (λ (b : Bool). seekName only image signature name (matchedNext only matched b p) ps)
-        (matches-other image (p .offset) signature name (λ q. d (es ∙ q)))
-        ∙ ap (λ (x : Matched). seekName only image signature name x ps) (unwanted only matched)
+    -- another signature
+    pub turn-unsigned : (s ≡ signature → ⊥) → seekName only image signature name m (p ∷ ps) ≡ seekName only image signature name m ps
+    turn-unsigned d =
+        turned false (matches-other image (p .offset) signature name (λ q. d (es ∙ q)))
+        ∙ ap (λ (x : Matched). seekName only image signature name x ps) (unmatched (oneMoreCounts only m))
       where
-        unwanted : (o : Bool) (x : Matched) → matchedNext o x false p ≡ x
-        unwanted o None = refl
-        unwanted true (One q) = refl
-        unwanted false (One q) = refl
-        unwanted o (Second at) = refl
+        unmatched : (k : Bool) → cond (k && false) (withMatch m p) m ≡ m
+        unmatched true = refl
+        unmatched false = refl
+
+    module _ (e : s ≡ signature) (k : Bool) (ek : k ≡ oneMoreCounts only m) where
+      signed : matches image signature name (p .offset) ≡ matchesName (headerAt image (p .offset) .name) name
+      signed = matches-signed image (p .offset) signature name (sym es ∙ e)
+
+      -- one more match would not count
+      pub turn-uncounted : k ≡ false → seekName only image signature name m (p ∷ ps) ≡ seekName only image signature name m ps
+      turn-uncounted c =
+          turned (matches image signature name (p .offset)) refl
+          ∙ ap (λ (x : Bool). seekName only image signature name (cond (x && matches image signature name (p .offset)) (withMatch m p) m) ps) (sym ek ∙ c)
+
+      module _ (r : Bool) (er : r ≡ matchesName (headerAt image (p .offset) .name) name) (c : k ≡ true) where
+        counted : (b : Bool) → r ≡ b
+            → seekName only image signature name m (p ∷ ps) ≡ seekName only image signature name (cond b (withMatch m p) m) ps
+        counted b z =
+            turned b (signed ∙ sym er ∙ z)
+            ∙ ap (λ (x : Bool). seekName only image signature name (cond (x && b) (withMatch m p) m) ps) (sym ek ∙ c)
+
+        -- another name
+        pub turn-unnamed : r ≡ false → seekName only image signature name m (p ∷ ps) ≡ seekName only image signature name m ps
+        turn-unnamed z = counted false z
+
+        -- a match
+        pub turn-match : r ≡ true → (n : Matched) → n ≡ withMatch m p
+            → seekName only image signature name m (p ∷ ps) ≡ seekName only image signature name n ps
+        turn-match z n en = counted true z ∙ ap (λ (x : Matched). seekName only image signature name x ps) (sym en)

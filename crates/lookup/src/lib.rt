@@ -40,7 +40,7 @@ enum Searched {
 }
 
 // Whether one more match counts: the first does, and a second one where only one may match.
-fn counts(matched: Matched, only: bool) -> bool
+fn one_more_counts(matched: Matched, only: bool) -> bool
     ensures { λ r. ⌜ r ≡ oneMoreCounts only matched ⌝ }
 {
     match matched {
@@ -89,7 +89,7 @@ fn seek(image: &[u8], signature: u8, name: &[u8], only: bool) -> Searched
         match step {
             Step::Next(p, next) => {
                 if Header::signature_at(image, p.offset) == signature
-                    && counts(matched, only)
+                    && one_more_counts(matched, only)
                     && has_name(image, p.offset, name)
                 {
                     matched = with_match(matched, p);

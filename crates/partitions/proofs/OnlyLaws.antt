@@ -47,72 +47,25 @@ module _ (image : List ℕ) (signature : ℕ) (name : List ℕ) where
   unfolding onlyMatch
   only-tail p ps e = rw e
 
-  -- the only match of a list, by the rules
-  record OnlyAmong (all : List Partition) (p : Partition) : Type 0 where
-    before : List Partition
-    after : List Partition
-    joined : before ++ p ∷ after ≡ all
-    unnamed-before : NoneNamed image signature name before
-    named : Named image signature name (p .offset)
-    unnamed-after : NoneNamed image signature name after
+  -- what is found in a list, by the rules: no match, the only one, or a second one
+  data Only : List Partition → Found → Type 0 where
+    none : {all : List Partition} → NoneNamed image signature name all → Only all (Refused NoPartition)
+    one : (before : List Partition) (p : Partition) (after : List Partition) → NoneNamed image signature name before
+        → Named image signature name (p .offset) → NoneNamed image signature name after → Only (before ++ p ∷ after) (At p)
+    two : (before : List Partition) (q : Partition) (between : List Partition) (p : Partition) (after : List Partition)
+        → NoneNamed image signature name before → Named image signature name (q .offset) → NoneNamed image signature name between
+        → Named image signature name (p .offset) → Only (before ++ q ∷ between ++ p ∷ after) (Refused (RepeatedPartition (p .offset)))
 
-  -- and the second one
-  record SecondAmong (all : List Partition) (p : Partition) : Type 0 where
-    before : List Partition
-    first : Partition
-    between : List Partition
-    after : List Partition
-    joined : before ++ first ∷ between ++ p ∷ after ≡ all
-    unnamed-before : NoneNamed image signature name before
-    first-named : Named image signature name (first .offset)
-    unnamed-between : NoneNamed image signature name between
-    named : Named image signature name (p .offset)
-
-  data Only (all : List Partition) : Found → Type 0 where
-    none : NoneNamed image signature name all → Only all (Refused NoPartition)
-    one : {p : Partition} → OnlyAmong all p → Only all (At p)
-    two : {p : Partition} → SecondAmong all p → Only all (Refused (RepeatedPartition (p .offset)))
-
-  only-later : (q : Partition) (ps : List Partition) → ¬ (Named image signature name (q .offset)) → {f : Found} → Only ps f → Only (q ∷ ps) f
-  only-later q ps n (none u) = none (n, u)
-  only-later q ps n (one s) =
-      one (record {
-        before = q ∷ s .before;
-        after = s .after;
-        joined = ap (λ (l : List Partition). q ∷ l) (s .joined);
-        unnamed-before = (n, s .unnamed-before);
-        named = s .named;
-        unnamed-after = s .unnamed-after;
-      })
-  only-later q ps n (two s) =
-      two (record {
-        before = q ∷ s .before;
-        first = s .first;
-        between = s .between;
-        after = s .after;
-        joined = ap (λ (l : List Partition). q ∷ l) (s .joined);
-        unnamed-before = (n, s .unnamed-before);
-        first-named = s .first-named;
-        unnamed-between = s .unnamed-between;
-        named = s .named;
-      })
+  only-later : (q : Partition) {ps : List Partition} {f : Found} → ¬ (Named image signature name (q .offset)) → Only ps f → Only (q ∷ ps) f
+  only-later q n (none {all = all} u) = none {all = q ∷ all} (n, u)
+  only-later q n (one before p after u m v) = one (q ∷ before) p after (n, u) m v
+  only-later q n (two before r between p after u m v k) = two (q ∷ before) r between p after (n, u) m v k
 
   only-here : (q : Partition) (ps : List Partition) → Named image signature name (q .offset) → (f : Found) → Match image signature name ps f
       → Only (q ∷ ps) (onlyUnless q f)
   only-here q ps n (At p) (found s) =
-      two (record {
-        before = [];
-        first = q;
-        between = s .before;
-        after = s .after;
-        joined = ap (λ (l : List Partition). q ∷ l) (s .joined);
-        unnamed-before = tt;
-        first-named = n;
-        unnamed-between = s .unnamed;
-        named = s .named;
-      })
-  only-here q ps n (Refused x) (missing u) =
-      one (record { before = []; after = ps; joined = refl; unnamed-before = tt; named = n; unnamed-after = u })
+      rw (← s .joined) (two [] q (s .before) p (s .after) tt n (s .unnamed) (s .named))
+  only-here q ps n (Refused x) (missing u) = one [] q ps tt n u
 
   only : (ps : List Partition) → Only ps (onlyMatch image signature name ps)
   only [] = rw only-nothing (none tt)
@@ -121,7 +74,7 @@ module _ (image : List ℕ) (signature : ℕ) (name : List ℕ) where
       (λ t. rw (only-head q ps t)
       (only-here q ps (matches-named image signature name (q .offset) t) (firstMatch image signature name ps) (match image signature name ps)))
       (λ t. rw (only-tail q ps t)
-      (only-later q ps (λ n. clash (cc (named-matches image signature name (q .offset) n))) (only ps)))
+      (only-later q (λ n. clash (cc (named-matches image signature name (q .offset) n))) (only ps)))
 
   -- and the other way round
   only-one : (before : List Partition) (p : Partition) (after : List Partition) → NoneNamed image signature name before
@@ -171,29 +124,6 @@ module _ (image : List ℕ) (signature : ℕ) (name : List ℕ) where
     accepted-only : (ps : List Partition) → Accepted image ps → onlyOf image signature name ≡ onlyMatch image signature name ps
     accepted-only ps a = only-walk ∙ ap (onlyBy image signature name) (accepted-exactly image bytes ps .1 a) ∙ only-covered ps
 
-    only-named : (ps : List Partition) → Accepted image ps → (p : Partition) → OnlyAmong ps p → OnlyNamed image signature name p
-    only-named ps a p s = record {
-      before = s .before;
-      after = s .after;
-      accepted = rw (← s .joined) at a;
-      unnamed-before = s .unnamed-before;
-      named = s .named;
-      unnamed-after = s .unnamed-after;
-    }
-
-    second-named : (ps : List Partition) → Accepted image ps → (p : Partition) → SecondAmong ps p → SecondNamed image signature name p
-    second-named ps a p s = record {
-      before = s .before;
-      first = s .first;
-      between = s .between;
-      after = s .after;
-      accepted = rw (← s .joined) at a;
-      unnamed-before = s .unnamed-before;
-      first-named = s .first-named;
-      unnamed-between = s .unnamed-between;
-      named = s .named;
-    }
-
     -- FOUND exactly when it is the only one
     pub only-exactly : (p : Partition) → (onlyOf image signature name ≡ At p) ↔ OnlyNamed image signature name p
     unfolding onlyOf onlyBy
@@ -203,8 +133,13 @@ module _ (image : List ℕ) (signature : ℕ) (name : List ℕ) where
     )
       where
         of-only : (ps : List Partition) → Accepted image ps → (f : Found) → Only ps f → f ≡ At p → OnlyNamed image signature name p
-        of-only ps a (At r) (one s) e = let q : r ≡ p = cc in rw q at (only-named ps a r s)
-        of-only ps a (Refused x) o e = clash (cc)
+        of-only ps a f (none u) e = clash (cc)
+        of-only ps a f (one before r after u n v) e =
+            let q : r ≡ p = cc in
+            let o : OnlyNamed image signature name r =
+            record { before = before; after = after; accepted = a; unnamed-before = u; named = n; unnamed-after = v } in
+            rw q at o
+        of-only ps a f (two before r between t after u n v k) e = clash (cc)
 
         there : (w : Walk) → Walked image bytes w → onlyBy image signature name w ≡ At p → OnlyNamed image signature name p
         there (covered ps) (accepts a) e = of-only ps a (onlyMatch image signature name ps) (only ps) e
@@ -216,9 +151,23 @@ module _ (image : List ℕ) (signature : ℕ) (name : List ℕ) where
     only-refuses e = (there (walk image) (walked image bytes), back e)
       where
         of-only : (ps : List Partition) → Accepted image ps → (f : Found) → Only ps f → f ≡ Refused e → NotOnly image signature name e
-        of-only ps a (At r) o q = clash (cc)
-        of-only ps a (Refused x) (none u) q = let z : NoPartition ≡ e = cc in rw z at (absent (record { all = ps; accepted = a; unnamed = u }))
-        of-only ps a (Refused x) (two s) q = let z : x ≡ e = cc in rw z at (second (second-named ps a _ s))
+        of-only ps a f (none u) q = let z : NoPartition ≡ e = cc in rw z at (absent (record { all = ps; accepted = a; unnamed = u }))
+        of-only ps a f (one before r after u n v) q = clash (cc)
+        of-only ps a f (two before r between p after u n v k) q =
+            let z : RepeatedPartition (p .offset) ≡ e = cc in
+            let s : SecondNamed image signature name p =
+            record {
+              before = before;
+              first = r;
+              between = between;
+              after = after;
+              accepted = a;
+              unnamed-before = u;
+              first-named = n;
+              unnamed-between = v;
+              named = k;
+            } in
+            rw z at (second s)
 
         there : (w : Walk) → Walked image bytes w → onlyBy image signature name w ≡ Refused e → NotOnly image signature name e
         there (covered ps) (accepts a) q = of-only ps a (onlyMatch image signature name ps) (only ps) q

@@ -16,7 +16,7 @@ use Rattle.partitions.proofs.WalkLaws.{next-bounds, rest, onWalk, loop-next, lo
 use Rattle.lookup.specs.declared.Matched.{Matched}
 use Rattle.lookup.specs.declared.Matched.the-variants.{None}
 use Rattle.lookup.specs.Helpers.{seekOf}
-use Rattle.lookup.proofs.SeekLaws.{whole-header, seekName, seek-refused, seek-start, seek-signed, seek-other, next-match, next-other, next-uncounted}
+use Rattle.lookup.proofs.SeekLaws.{whole-header, seekName, seek-refused, seek-start, turn-unsigned, turn-uncounted, turn-unnamed, turn-match}
 use borrow.Author.Needs.{needs}
 use Rattle.lookup.proofs.seek.Statement.{statement}
 use Rattle.lookup.proofs.seek.Tie as tie
@@ -88,8 +88,8 @@ enum-known-step c = search needs
 signature-at-requires : tie.Need-signature-at-requires Inv-loop μ-loop
 signature-at-requires c κs = search needs
 
-counts-requires : tie.Need-counts-requires Inv-loop μ-loop
-counts-requires c κs = search needs
+one-more-counts-requires : tie.Need-one-more-counts-requires Inv-loop μ-loop
+one-more-counts-requires c κs = search needs
 
 has-name-requires : tie.Need-has-name-requires Inv-loop μ-loop
 has-name-requires c κs =
@@ -117,10 +117,9 @@ loop-again c =
     let g = h .before .before .step2 .given in
     let m = s .before .loop .matched in
     turn s (g .0 .0) (g .0 .1 .0) (g .1) (c .with-match .result)
-    (λ ps. seek-signed (a .only) (imageOf s) (a .signature) (now (a .name)) m (g .0 .0) ps
-    (h .signature-at .result) (h .signature-at .ensures) (k .before .if2 .taken) (c .with-match .result)
-    (next-match (a .only) m _ (k .counts .result) (k .counts .ensures) (g .0 .0) (n .has-name .result) (n .has-name .ensures)
-    (n .before .if3 .taken) (c .before .if4 .taken) (c .with-match .result) (c .with-match .ensures)))
+    (λ ps. turn-match (a .only) (imageOf s) (a .signature) (now (a .name)) m (g .0 .0) ps (h .signature-at .result) (h .signature-at .ensures)
+    (k .before .if2 .taken) (k .one-more-counts .result) (k .one-more-counts .ensures) (n .has-name .result) (n .has-name .ensures)
+    (n .before .if3 .taken) (c .before .if4 .taken) (c .with-match .result) (c .with-match .ensures))
 
 loop-less-2 : tie.Need-loop-less-2 Inv-loop μ-loop
 loop-less-2 c =
@@ -139,13 +138,13 @@ loop-again-2 c =
     turn s (g .0 .0) (g .0 .1 .0) (g .1) m
     (λ ps. elim (c .if2 .came) [
       | inl x ↦
-          seek-signed (a .only) (imageOf s) (a .signature) (now (a .name)) m (g .0 .0) ps (h .signature-at .result) (h .signature-at .ensures) (x .0 .taken) m
-          (next-other (a .only) m _ (x .1 .result) (x .1 .ensures) (g .0 .0) (x .3 .result) (x .3 .ensures) (x .2 .taken) (x .4 .left))
+          turn-unnamed (a .only) (imageOf s) (a .signature) (now (a .name)) m (g .0 .0) ps (h .signature-at .result) (h .signature-at .ensures)
+          (x .0 .taken) (x .1 .result) (x .1 .ensures) (x .3 .result) (x .3 .ensures) (x .2 .taken) (x .4 .left)
       | inr (inl x) ↦
-          seek-signed (a .only) (imageOf s) (a .signature) (now (a .name)) m (g .0 .0) ps (h .signature-at .result) (h .signature-at .ensures) (x .0 .taken) m
-          (next-uncounted (a .only) m _ (x .1 .result) (x .1 .ensures) (g .0 .0) (x .2 .left))
+          turn-uncounted (a .only) (imageOf s) (a .signature) (now (a .name)) m (g .0 .0) ps (h .signature-at .result) (h .signature-at .ensures)
+          (x .0 .taken) (x .1 .result) (x .1 .ensures) (x .2 .left)
       | inr (inr x) ↦
-          seek-other (a .only) (imageOf s) (a .signature) (now (a .name)) m (g .0 .0) ps (h .signature-at .result) (h .signature-at .ensures) (x .left)
+          turn-unsigned (a .only) (imageOf s) (a .signature) (now (a .name)) m (g .0 .0) ps (h .signature-at .result) (h .signature-at .ensures) (x .left)
     ])
 
 enum-told : tie.Need-enum-told Inv-loop μ-loop
@@ -180,7 +179,7 @@ seek-spec =
     step-requires
     enum-known-step
     signature-at-requires
-    counts-requires
+    one-more-counts-requires
     has-name-requires
     with-match-requires
     loop-less
