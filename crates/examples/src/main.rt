@@ -1,5 +1,7 @@
 // Runs example 12, fills the greatest partition to its last byte, and tries it with a second `common` behind it; prints what the
 // library answers.
+#![tactic(auto)]
+
 ghost use Rattle.std.specs.Prelude.{◌≡◌, length};
 
 use header::{Blocks, Header};
