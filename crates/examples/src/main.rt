@@ -5,7 +5,7 @@
 ghost use Rattle.std.specs.Prelude.{◌≡◌, length};
 
 use header::{Blocks, Header};
-use libc::STDOUT_FILENO;
+use std::io;
 use variables::{Edited, Fetched};
 
 // The greatest image: 65,536 blocks.
@@ -16,21 +16,21 @@ const COMMON: u8 = 0x70;
 
 const FREE: u8 = 0x7F;
 
-fn main() {
+fn main(rt: HostRuntime) -> io::Result<()> {
     let mut image = blank_image();
     put_header(&mut image, 0, COMMON, 4096);
-    area_of(&image, 4096);
+    area_of(&rt, &image, 4096)?;
     put_header(&mut image, 0, COMMON, Header::MAX_LENGTH);
-    area_of(&image, Header::MAX_LENGTH);
-    write_check(&image, b"65535 blocks and a zero block: ");
+    area_of(&rt, &image, Header::MAX_LENGTH)?;
+    write_check(&rt, &image, b"65535 blocks and a zero block: ")?;
     put_header(&mut image, 1048560, COMMON, 1);
-    write_check(&image, b"65535 and 1 blocks: ");
+    write_check(&rt, &image, b"65535 and 1 blocks: ")?;
     let mut value = blank_image();
-    set_first(&mut image, &value, 0);
+    set_first(&rt, &mut image, &value, 0)?;
     put_header(&mut image, 1048560, FREE, 1);
-    fill_and_read(&mut image, &mut value);
+    fill_and_read(&rt, &mut image, &mut value)?;
     put_header(&mut image, 0, COMMON, BLOCKS);
-    write_check(&image, b"65536 blocks in one header: ");
+    write_check(&rt, &image, b"65536 blocks in one header: ")
 }
 
 // The greatest image, all zero; the `ensures` gives its length, which lending a part of it asks.
@@ -61,69 +61,58 @@ fn put_header(image: &mut [u8], at: usize, signature: u8, blocks: u32) {
 }
 
 // Writes the length of the data area of `common` in the image's first blocks.
-fn area_of(image: &[u8], blocks: u32) {
+fn area_of(rt: &impl Print, image: &[u8], blocks: u32) -> io::Result<()> {
     let bytes = Blocks(blocks).bytes();
     let end = bytes.0;
     if image.len() < end {
-        return;
+        return Ok(());
     }
     let mut code: u32 = 0;
     let mut offset: usize = 0;
     let area = lookup::area(&image[..end], 0x70, b"common", &mut code, &mut offset);
     let n = area.len();
-    io::print_decimal(STDOUT_FILENO, blocks as u64);
-    io::write_all(STDOUT_FILENO, b" blocks: code ");
-    io::print_decimal(STDOUT_FILENO, code as u64);
-    io::write_all(STDOUT_FILENO, b", area of ");
-    io::print_decimal(STDOUT_FILENO, n as u64);
-    io::write_all(STDOUT_FILENO, b" bytes\n");
+    println!(rt; "{blocks} blocks: code {code}, area of {n} bytes")
 }
 
 // Writes a title and the image check's answer.
-fn write_check(image: &[u8], title: &[u8]) {
+fn write_check(rt: &impl Print, image: &[u8], title: &[u8]) -> io::Result<()> {
     let checked = partitions::check(image);
     let answer = checked.answer();
-    io::write_all(STDOUT_FILENO, title);
+    rt.write_all(title)?;
     if answer.code == 0 {
-        io::write_all(STDOUT_FILENO, b"accepted, ");
-        io::print_decimal(STDOUT_FILENO, answer.partitions as u64);
-        io::write_all(STDOUT_FILENO, b" partitions\n");
-        return;
+        let count = answer.partitions;
+        return println!(rt; "accepted, {count} partitions");
     }
-    write_refused(answer.code, answer.offset);
+    write_refused(rt, answer.code, answer.offset)
 }
 
 // Fills the partition of 65,535 blocks to its last byte with one variable, and reads it back.
-fn fill_and_read(image: &mut [u8], value: &mut [u8]) {
+fn fill_and_read(rt: &impl Print, image: &mut [u8], value: &mut [u8]) -> io::Result<()> {
     lists::fill(value, 85);
-    set_first(image, value, 1048541);
-    set_first(image, value, 1048540);
+    set_first(rt, image, value, 1048541)?;
+    set_first(rt, image, value, 1048540)?;
     lists::fill(value, 0);
-    read_back(image, value);
+    read_back(rt, image, value)
 }
 
 // Sets `a` to the first n bytes of a slice, and writes the answer.
-fn set_first(image: &mut [u8], value: &[u8], n: usize) {
+fn set_first(rt: &impl Print, image: &mut [u8], value: &[u8], n: usize) -> io::Result<()> {
     if value.len() < n {
-        return;
+        return Ok(());
     }
     let answer = nvram::set(image, b"a", &value[..n]);
-    io::write_all(STDOUT_FILENO, b"a value of ");
-    io::print_decimal(STDOUT_FILENO, n as u64);
-    io::write_all(STDOUT_FILENO, b" bytes: ");
-    write_edit(answer);
+    print!(rt; "a value of {n} bytes: ")?;
+    write_edit(rt, answer)
 }
 
 // Reads `a`, and writes how many of its bytes are as they were set.
-fn read_back(image: &[u8], value: &mut [u8]) {
+fn read_back(rt: &impl Print, image: &[u8], value: &mut [u8]) -> io::Result<()> {
     match nvram::read(image, b"a", value) {
         Fetched::Length(n) => {
-            io::print_decimal(STDOUT_FILENO, n as u64);
-            io::write_all(STDOUT_FILENO, b" bytes read back, ");
-            io::print_decimal(STDOUT_FILENO, leading(value, 85) as u64);
-            io::write_all(STDOUT_FILENO, b" of them as set\n");
+            let count = leading(value, 85);
+            println!(rt; "{n} bytes read back, {count} of them as set")
         }
-        Fetched::Refused(e) => write_refused(e.code(), e.offset()),
+        Fetched::Refused(e) => write_refused(rt, e.code(), e.offset()),
     }
 }
 
@@ -140,20 +129,14 @@ fn leading(s: &[u8], b: u8) -> usize {
 }
 
 // Writes an edit's answer.
-fn write_edit(answer: Edited) {
+fn write_edit(rt: &impl Print, answer: Edited) -> io::Result<()> {
     match answer {
-        Edited::Done => {
-            io::write_all(STDOUT_FILENO, b"set\n");
-        }
-        Edited::Refused(e) => write_refused(e.code(), e.offset()),
+        Edited::Done => println!(rt; "set"),
+        Edited::Refused(e) => write_refused(rt, e.code(), e.offset()),
     }
 }
 
 // Writes a refusal.
-fn write_refused(code: u32, offset: usize) {
-    io::write_all(STDOUT_FILENO, b"refused ");
-    io::print_decimal(STDOUT_FILENO, code as u64);
-    io::write_all(STDOUT_FILENO, b" at ");
-    io::print_decimal(STDOUT_FILENO, offset as u64);
-    io::write_all(STDOUT_FILENO, b"\n");
+fn write_refused(rt: &impl Print, code: u32, offset: usize) -> io::Result<()> {
+    println!(rt; "refused {code} at {offset}")
 }

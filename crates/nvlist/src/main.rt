@@ -1,21 +1,23 @@
 // Lists the partitions of an image that is read from standard input.
 #![tactic(auto)]
 
-ghost use Rattle.std.specs.Prelude.{◌≡◌, length};
+ghost use Rattle.std.specs.Prelude.{◌≡◌, ◌<◌, ◌≤◌, IfOk, length, take};
+ghost use Rattle.std.specs.Io.KnownBytes.{Consumes, IsAtEnd};
 
-use libc::{STDIN_FILENO, STDOUT_FILENO};
 use listing::Listed;
+use std::io;
+use std::io::Read;
 
-fn main() {
+fn main(rt: HostRuntime) -> io::Result<()> {
     let mut image = image_buffer();
     let mut text = text_buffer();
-    let n = io::read_full(STDIN_FILENO, &mut image);
+    let n = read_full(&mut rt.stdin(), &mut image)?;
     let listed = listing::listing(&image[..n], &mut text);
-    // A listing always has room: `text-fits` of the crate listing.
+    // A listing always has room: `text_fits` of the crate listing.
     let Listed::Written { length } = listed else {
-        return;
+        return Ok(());
     };
-    io::write_all(STDOUT_FILENO, &text[..length]);
+    rt.write_all(&text[..length])
 }
 
 // Room for the longest image and one byte more, by which a longer one is told.
@@ -30,4 +32,21 @@ fn text_buffer() -> [u8; 131072]
     ensures { 131072 ≡ length result }
 {
     [0; 131072]
+}
+
+// Reads until the buffer is full or the input ends: how many bytes stand at its start.
+fn read_full<R: Read>(input: &mut R, buffer: &mut [u8]) -> io::Result<usize>
+    ensures bound { IfOk result (λ n. n ≤ length buffer.new) }
+    ensures bytes { IfOk result (λ n. Consumes (R.remaining input.old) (R.remaining input.new) (take n buffer.new)) }
+    ensures full_or_end { IfOk result (λ n. n < length buffer.new → IsAtEnd (R.remaining input.new)) }
+{
+    let mut done = 0;
+    while done < buffer.len() {
+        let n = input.read(&mut buffer[done..])?;
+        if n == 0 {
+            break;
+        }
+        done += n;
+    }
+    Ok(done)
 }
