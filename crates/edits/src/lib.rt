@@ -1,4 +1,6 @@
 // The edits of a variable in its area: set and remove.
+#![tactic(auto)]
+
 ghost use Rattle.std.specs.Prelude.{◌≡◌, [], ◌∷◌, ◌++◌, ◌+◌, ◌-◌, ◌≤◌, length};
 ghost use Rattle.lists.specs.Pasted.{pasted};
 ghost use Rattle.values.specs.Value.{encode};

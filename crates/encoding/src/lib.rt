@@ -1,4 +1,6 @@
 // The canonical form of a value: made from the value, or from a stored one in its place.
+#![tactic(auto)]
+
 ghost use Rattle.std.specs.Prelude.{◌≡◌, [], ◌∷◌, ◌+◌, ◌≤◌, length, take, drop, true};
 ghost use Rattle.lists.specs.Pasted.{pasted, written_in};
 ghost use Rattle.lists.specs.Helpers.{until_either};

@@ -1,9 +1,11 @@
 // The errors of every call: the codes that a caller may see, and the offset answered with each.
+#![tactic(auto)]
+
 ghost use Rattle.std.specs.Prelude.{◌≡◌};
 ghost use Rattle.errors.specs.Errors.{header_code, area_code, code_of, offset_of};
 
 // The first rule that a header breaks.
-#[derive(Drop)]
+#[derive(Clone, Copy)]
 pub enum HeaderFault {
     // 2: the length field is zero.
     ZeroLength,
@@ -27,7 +29,7 @@ impl HeaderFault {
 }
 
 // The first fault of a variable area.
-#[derive(Drop)]
+#[derive(Clone, Copy)]
 pub enum AreaFault {
     // 7: the area ends inside a pair, or where a pair or the end should begin.
     AreaEnd,
@@ -54,7 +56,7 @@ impl AreaFault {
 }
 
 // A refused call, with the offset where the table of codes gives one.
-#[derive(Drop)]
+#[derive(Clone, Copy)]
 pub enum Error {
     // 1: the image's length is outside the rule.
     ImageLength,

@@ -1,4 +1,6 @@
 // The header of a partition, its checksum and its rules.
+#![tactic(auto)]
+
 ghost use Rattle.std.specs.Prelude.{◌≡◌, ◌+◌, ◌/◌, ◌%◌, ◌≤◌, ◌<◌, length as len};
 ghost use Rattle.lists.specs.Bytes.{AllBytes};
 ghost use Rattle.header.specs.Checksum.{sum, sumcheck, fold};
@@ -7,11 +9,11 @@ ghost use Rattle.header.specs.Header.{bytes_of, byte_at, name_at, header_at, cov
 use errors::{Error, HeaderFault};
 
 // A length in blocks, as a header holds it.
-#[derive(Drop)]
+#[derive(Clone, Copy)]
 pub struct Blocks(pub u32);
 
 // A length in bytes.
-#[derive(Drop)]
+#[derive(Clone, Copy)]
 pub struct Bytes(pub usize);
 
 impl Blocks {
@@ -24,7 +26,7 @@ impl Blocks {
 }
 
 // The 16 bytes at the start of a partition.
-#[derive(Drop)]
+#[derive(Clone, Copy)]
 pub struct Header {
     pub signature: u8,
     pub checksum: u8,
@@ -33,14 +35,14 @@ pub struct Header {
 }
 
 // A header that was made of its fields, and whether its length is one that a header can hold.
-#[derive(Drop)]
+#[derive(Clone, Copy)]
 pub struct NewHeader {
     pub header: Header,
     pub allowed: bool,
 }
 
 // What the rules say of a header.
-#[derive(Drop)]
+#[derive(Clone, Copy)]
 pub enum Validity {
     // It breaks no rule.
     Valid,
@@ -49,7 +51,7 @@ pub enum Validity {
 }
 
 // The caller's view of `Validity`: 0, or the error's code and offset.
-#[derive(Drop)]
+#[derive(Clone, Copy)]
 pub struct ValidityAnswer {
     pub code: u32,
     pub offset: usize,

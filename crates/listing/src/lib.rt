@@ -1,4 +1,6 @@
 // The text of a listing, written into a lent buffer.
+#![tactic(auto)]
+
 ghost use Rattle.std.specs.Prelude.{◌≡◌, [], ◌∷◌, ◌++◌, ◌+◌, ◌≤◌, ◌<◌, length};
 ghost use Rattle.lists.specs.Pasted.{written_in};
 ghost use Rattle.partitions.specs.Walk.{broken, walk};
@@ -14,7 +16,7 @@ use partitions::{Checked, Cursor, Partition, Step};
 const MAX_LISTED: usize = 65536;
 
 // What writing a listing answers.
-#[derive(Drop)]
+#[derive(Clone, Copy)]
 pub enum Listed {
     // The text stands at the buffer's start; its length.
     Written { length: usize },
@@ -22,7 +24,7 @@ pub enum Listed {
 }
 
 // The caller's view of `Listed`: code 0 and the length, or the error's code and 0.
-#[derive(Drop)]
+#[derive(Clone, Copy)]
 pub struct ListAnswer {
     pub code: u32,
     pub length: usize,
@@ -43,7 +45,7 @@ impl Listed {
 }
 
 // What the lines of an image take.
-#[derive(Drop)]
+#[derive(Clone, Copy)]
 enum Measured {
     // The bytes of all lines, and the blocks of all partitions.
     Lines { bytes: usize, blocks: usize },

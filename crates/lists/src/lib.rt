@@ -1,4 +1,6 @@
 // Laws of lists of bytes, and the copies, moves, fills and searches that use them.
+#![tactic(auto)]
+
 ghost use Rattle.std.specs.Prelude.{◌≡◌, ◌+◌, ◌≤◌, length, take, drop, replicate, ltb};
 ghost use Rattle.lists.specs.Pasted.{pasted};
 ghost use Rattle.lists.specs.Helpers.{moved_bytes};

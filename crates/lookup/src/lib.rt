@@ -1,4 +1,6 @@
 // A partition by its signature and name, and its data area.
+#![tactic(auto)]
+
 ghost use Rattle.std.specs.Prelude.{◌≡◌, ◌+◌, ◌≤◌, length as len};
 ghost use Rattle.header.specs.Header.{header_at};
 ghost use Rattle.partition_name.specs.Name.{matches_name};
@@ -21,7 +23,7 @@ fn has_name(image: &[u8], at: usize, name: &[u8]) -> bool
 }
 
 // The partitions that have matched so far.
-#[derive(Drop)]
+#[derive(Clone, Copy)]
 enum Matched {
     None,
     // The first.
@@ -31,7 +33,7 @@ enum Matched {
 }
 
 // What a search has met: the matches among all partitions, or why the image is refused.
-#[derive(Drop)]
+#[derive(Clone, Copy)]
 enum Searched {
     All(Matched),
     Refused(Error),

@@ -1,10 +1,12 @@
 // The rule for a variable's name: 1 to 31 bytes, each one marked in a table.
+#![tactic(auto)]
+
 ghost use Rattle.std.specs.Prelude.{◌≡◌, ◌+◌, ◌<◌, drop};
 ghost use Rattle.names.specs.Name.{name_byte, name_check};
 ghost use Rattle.names.specs.Helpers.{allowed_ahead, check_by_allowed};
 
 // What the check of a name finds.
-#[derive(Drop)]
+#[derive(Clone, Copy)]
 pub enum NameCheck {
     // The name keeps the rule.
     Good,

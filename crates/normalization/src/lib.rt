@@ -1,4 +1,6 @@
 // Every value of a variable area made canonical, in its place: normalize.
+#![tactic(auto)]
+
 ghost use Rattle.std.specs.Prelude.{◌≡◌, ◌+◌, ◌≤◌, ◌<◌, length};
 ghost use Rattle.lists.specs.Pasted.{pasted};
 ghost use Rattle.pairs.specs.Area.{parse};

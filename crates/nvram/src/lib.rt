@@ -1,4 +1,6 @@
 // Every call on an image.
+#![tactic(auto)]
+
 ghost use Rattle.std.specs.Prelude.{◌≡◌, [], ◌+◌, ◌<◌, ◌^◌};
 ghost use Rattle.errors.specs.Errors.{offset_of, moved};
 ghost use Rattle.names.specs.Name.{name_check};
@@ -31,7 +33,7 @@ pub use lookup::area;
 const SIGNATURE: u8 = 0x70;
 
 // Where the variable area stands in an image.
-#[derive(Drop)]
+#[derive(Clone, Copy)]
 enum Span {
     At { start: usize, end: usize },
     Refused(Error),

@@ -1,5 +1,7 @@
 // The C boundary: each function returns the code, 0 where the call is done, and stores its outputs.
 // All but the listing store an offset; the other outputs are 0 with every code from 1 up.
+#![tactic(auto)]
+
 ghost use Rattle.std.specs.Prelude.{◌≡◌};
 ghost use Rattle.variables.specs.Calls.{set, remove, normalize, read, count};
 ghost use Rattle.demands.specs.Requests.{variable, check, partition, find};

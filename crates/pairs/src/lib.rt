@@ -1,4 +1,6 @@
 // The pairs of a variable area: what stands at an offset, and the scan of the whole area.
+#![tactic(auto)]
+
 ghost use Rattle.std.specs.Prelude.{◌≡◌, false, ◌≤◌, length, take, drop};
 ghost use Rattle.repeats.specs.Pieces.{first_repeat};
 ghost use Rattle.pairs.specs.Scan.{scan_name, scan_value, stand_at};
@@ -10,7 +12,7 @@ use names::NameCheck;
 use repeats::Repeat;
 
 // Where a scan of a name or of a value ends.
-#[derive(Drop)]
+#[derive(Clone, Copy)]
 enum ScanEnd {
     // The byte that ends it stands here.
     At(usize),
@@ -21,7 +23,7 @@ enum ScanEnd {
 }
 
 // What stands at an offset of the area.
-#[derive(Drop)]
+#[derive(Clone, Copy)]
 pub enum PairAt {
     // A pair: the offsets of its `=` and of its 0x00.
     Pair { equals: usize, end: usize },
@@ -36,7 +38,7 @@ pub enum PairAt {
 }
 
 // The whole area: the number of its pairs, the offset of the ending 0x00 and the pair that was sought, or its first fault.
-#[derive(Drop)]
+#[derive(Clone, Copy)]
 pub enum Scanned {
     Pairs {
         count: usize,
@@ -47,7 +49,7 @@ pub enum Scanned {
 }
 
 // The first pair of a name: the offsets of its name, of its `=` and of its 0x00.
-#[derive(Drop)]
+#[derive(Clone, Copy)]
 pub enum Place {
     At {
         start: usize,

@@ -11,7 +11,7 @@ use borrow.Author.Tests.{eqb-true, eq-eqb, leb-true, le-leb}
 use Rattle.lists.proofs.Tests.{split, clash}
 use Rattle.lists.proofs.ListLaws.{zeros-at}
 use Rattle.partition_name.specs.Rules.{SameName, MatchesName, NoLeftover}
-use Rattle.partition_name.specs.Name.{same_name, padded, matches_name}
+use Rattle.partition_name.specs.Name.{padded, matches_name}
 use Rattle.partition_name.proofs.SameLaws.{same-exactly, same-reflexive, same-symmetric, same-transitive, same-no-leftover}
 
 -- past its end a name reads as zeros

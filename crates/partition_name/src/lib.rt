@@ -1,4 +1,6 @@
 // The name of a partition, as a header stores it and as a caller gives it.
+#![tactic(auto)]
+
 ghost use Rattle.std.specs.Prelude.{◌≡◌, get_or};
 ghost use Rattle.partition_name.specs.Name.{matches_name};
 

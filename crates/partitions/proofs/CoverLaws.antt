@@ -1,5 +1,5 @@
 -- Accepted exactly when covered, and refused by each of 1 to 4 exactly when its rule says so.
-use Prim.Native.Nat.{ℕ, ◌+◌, ◌-◌, ◌*◌, ◌<◌}
+use Prim.Native.Nat.{ℕ, ◌+◌, ◌*◌, ◌<◌}
 use mathlib.Core.Path.{◌≡◌, ap, subst, refl, sym, ◌∙◌}
 use mathlib.Core.Logic.{◌≢◌, ◌↔◌}
 use mathlib.Core.Bool.{true, false}
@@ -55,7 +55,7 @@ cover-sound : (image : List ℕ) {a b : ℕ} (before : List Partition) (p : Part
     → Sound image p.offset
 unfolding partition_at
 cover-sound image [] p after (next s c) = s
-cover-sound image (q ∷ before) p after (next s c) = cover-sound image before p after c
+cover-sound image {a = a} {b = b} (q ∷ before) p after (next s c) = cover-sound image {a = past_at image a} {b = b} before p after c
 
 -- THE CHECKSUM of a partition of an accepted image, whatever its index, is not zero
 pub indexed-checksum : (image : List ℕ) (n : ℕ) (p : Partition) → Indexed image n p → byte_at image p.offset 1 ≢ 0

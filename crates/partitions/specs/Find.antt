@@ -5,7 +5,6 @@ use Rattle.header.specs.Header.{header_at, bytes_of}
 use Rattle.partition_name.specs.Name.{matches_name}
 use Rattle.partitions.specs.declared.Partition.{Partition}
 use Rattle.partitions.specs.declared.Checked.{Checked}
-use Rattle.partitions.specs.declared.Checked.TheVariants as Checked
 use Rattle.partitions.specs.declared.Found.{Found}
 use Rattle.partitions.specs.declared.Found.TheVariants.{At, Refused}
 use Rattle.partitions.specs.Walk.{Walk, covered, broken, walk}

@@ -3,7 +3,6 @@ use Rattle.std.specs.Prelude.{ℕ}
 use Rattle.errors.specs.Errors.{code_of, offset_of}
 use Rattle.partitions.specs.declared.CheckAnswer.{CheckAnswer}
 use Rattle.partitions.specs.declared.Checked.{Checked}
-use Rattle.partitions.specs.declared.Checked.TheVariants as Checked
 use Rattle.partitions.specs.declared.FindAnswer.{FindAnswer}
 use Rattle.partitions.specs.declared.StepAnswer.{StepAnswer}
 use Rattle.partitions.specs.declared.Step.{Step}

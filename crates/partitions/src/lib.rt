@@ -1,4 +1,6 @@
 // The partitions of an image: a walk by steps, the image check, and a partition by its index.
+#![tactic(auto)]
+
 ghost use Rattle.std.specs.Prelude.{◌≡◌};
 ghost use Rattle.partitions.specs.Walk.{allowed_length, step_at};
 ghost use Rattle.partitions.specs.Find.{check_of, index_of};
@@ -12,7 +14,7 @@ use header::{Blocks, Header, Validity};
 const MAX_IMAGE: usize = 1048576;
 
 // A partition, by the offset of its header; its name is read from the image.
-#[derive(Drop)]
+#[derive(Clone, Copy)]
 pub struct Partition {
     pub offset: usize,
     pub blocks: Blocks,
@@ -20,13 +22,13 @@ pub struct Partition {
 }
 
 // Where a walk stands.
-#[derive(Drop)]
+#[derive(Clone, Copy)]
 pub struct Cursor {
     pub at: usize,
 }
 
 // What a step of a walk finds.
-#[derive(Drop)]
+#[derive(Clone, Copy)]
 pub enum Step {
     // A partition, and where the walk goes on.
     Next(Partition, Cursor),
@@ -37,7 +39,7 @@ pub enum Step {
 }
 
 // The caller's view of `Step`: code 0, the partition's header and the next offset, all 0 at the end; or the error's code and offset.
-#[derive(Drop)]
+#[derive(Clone, Copy)]
 pub struct StepAnswer {
     pub code: u32,
     pub offset: usize,
@@ -120,7 +122,7 @@ impl Cursor {
 }
 
 // What the image check answers.
-#[derive(Drop)]
+#[derive(Clone, Copy)]
 pub enum Checked {
     // The image is accepted; the number of partitions that cover it.
     Accepted { partitions: usize },
@@ -128,7 +130,7 @@ pub enum Checked {
 }
 
 // The caller's view of `Checked`: code 0 and the partition count, or the error's code and offset.
-#[derive(Drop)]
+#[derive(Clone, Copy)]
 pub struct CheckAnswer {
     pub code: u32,
     pub offset: usize,
@@ -155,14 +157,14 @@ impl Checked {
 }
 
 // What finding a partition answers.
-#[derive(Drop)]
+#[derive(Clone, Copy)]
 pub enum Found {
     At(Partition),
     Refused(Error),
 }
 
 // The caller's view of `Found`: code 0 and the partition's header, or the error's code and offset.
-#[derive(Drop)]
+#[derive(Clone, Copy)]
 pub struct FindAnswer {
     pub code: u32,
     pub offset: usize,

@@ -1,4 +1,6 @@
 // The test for a second name: the first piece whose name stood before.
+#![tactic(auto)]
+
 ghost use Rattle.std.specs.Prelude.{◌≡◌, false, ◌+◌, ◌<◌, length, set};
 ghost use Rattle.lists.specs.Bytes.{same_bytes};
 ghost use Rattle.repeats.specs.Pieces.{piece_name, first_repeat};
@@ -6,7 +8,7 @@ ghost use Rattle.repeats.specs.Helpers.Places.{Start, PieceByte, Next, Distinct,
 ghost use Rattle.repeats.specs.Helpers.Table.{hash_of, placed, Table, Walked, Block, Gathered, Turn};
 
 // The first piece whose name stood before, if there is one.
-#[derive(Drop)]
+#[derive(Clone, Copy)]
 pub enum Repeat {
     // The later piece begins here.
     At(usize),
@@ -14,14 +16,14 @@ pub enum Repeat {
 }
 
 // Whether the walk to a name finds it, and else the empty link where it ends.
-#[derive(Drop)]
+#[derive(Clone, Copy)]
 struct WalkEnd {
     link: usize,
     hit: bool,
 }
 
 // Where a block stops, how many starts it holds, and whether the name there stands in it.
-#[derive(Drop)]
+#[derive(Clone, Copy)]
 struct Stop {
     at: usize,
     count: usize,
@@ -29,7 +31,7 @@ struct Stop {
 }
 
 // Where the next block begins, and the offset before which no piece has a name of the blocks so far.
-#[derive(Drop)]
+#[derive(Clone, Copy)]
 struct Turned {
     mid: usize,
     best: usize,

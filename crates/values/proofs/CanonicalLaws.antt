@@ -32,7 +32,7 @@ run_short b n h =
     let r : n % 127 ≡ n = omega arith in
     rw (q, r)
 
-escapes-run : {n : ℕ} {x : List ℕ} (b : ℕ) → Escapes (mark b) n x → run_bytes b n ≡ x
+escapes-run : (b : ℕ) {n : ℕ} {x : List ℕ} → Escapes (mark b) n x → run_bytes b n ≡ x
 escapes-run b none = run_short b 0 (omega arith) ∙ rest-none b 0 refl
 escapes-run b (rest {n = n} lo hi) = run_short b n hi ∙ rest_some b n (omega arith)
 escapes-run b (full {n = n} e) = full-step b n ∙ ap (λ (w : List ℕ). 255 ∷ (mark b + 127) ∷ w) (escapes-run b e)

@@ -1,4 +1,6 @@
 // Values: what stored bytes stand for, and how they are decoded.
+#![tactic(auto)]
+
 ghost use Rattle.std.specs.Prelude.{◌≡◌, ◌+◌, ◌-◌, ◌≤◌, length, drop, replicate};
 ghost use Rattle.lists.specs.Pasted.{pasted, written_in};
 ghost use Rattle.lists.specs.Helpers.{until_either};
@@ -7,7 +9,7 @@ ghost use Rattle.values.specs.Helpers.{part, Passed};
 ghost use Rattle.values.specs.Helpers.{first_stop, next_stop};
 
 // Bytes written to a buffer: how many, or none for want of room.
-#[derive(Drop)]
+#[derive(Clone, Copy)]
 pub enum Written {
     Length(usize),
     NoRoom,
@@ -108,7 +110,7 @@ pub fn decoded_len(stored: &[u8], room: usize) -> Written
 }
 
 // How far a loop got: the next byte to read, and the next to write.
-#[derive(Drop)]
+#[derive(Clone, Copy)]
 struct Spot {
     read: usize,
     put: usize,

@@ -1,4 +1,6 @@
 // The calls that leave a variable area as it is: count and read; and what every call on it answers.
+#![tactic(auto)]
+
 ghost use Rattle.std.specs.Prelude.{◌≡◌};
 ghost use Rattle.variables.specs.Helpers.{named_scan, Sought, pair_read};
 ghost use Rattle.variables.specs.Views.{count_reply, read_reply};
@@ -11,7 +13,7 @@ use pairs::{Place, Scanned};
 use values::Written;
 
 // The caller's view of an answer to a call on variables: code 0 and the length or count, or the error's code and offset.
-#[derive(Drop)]
+#[derive(Clone, Copy)]
 pub struct CallAnswer {
     pub code: u32,
     pub offset: usize,
@@ -43,7 +45,7 @@ impl CallAnswer {
 }
 
 // An edit that is done, or why it is not.
-#[derive(Drop)]
+#[derive(Clone, Copy)]
 pub enum Edited {
     Done,
     Refused(Error),
@@ -61,7 +63,7 @@ impl Edited {
 }
 
 // The number of variables, or why there is none.
-#[derive(Drop)]
+#[derive(Clone, Copy)]
 pub enum Counted {
     Variables(usize),
     Refused(Error),
@@ -79,7 +81,7 @@ impl Counted {
 }
 
 // The length of the value that was read, or why there is none.
-#[derive(Drop)]
+#[derive(Clone, Copy)]
 pub enum Fetched {
     Length(usize),
     Refused(Error),
