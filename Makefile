@@ -34,20 +34,18 @@ bench: target/staticlib/libnvram_c.a
 	@tests/bench/run
 
 fmt:
-	@rt fmt
+	@for crate in crates/*/; do (cd "$$crate" && rt fmt) || exit 1; done
 	@cargo fmt --all --manifest-path tests/Cargo.toml
 	@cargo fmt --all --manifest-path bindings/rust/Cargo.toml
 
-# What a proof depends on; the rules touch their targets, which the prover leaves as they are where nothing changed.
-sources := crates.txt $(shell find crates -type f ! -path '*/must-fail/*' ! -name '*.md' 2>/dev/null)
+# What a proof depends on, without what the prover keeps in out/.
+sources := crates.txt $(shell find crates -name out -prune -o -type f ! -path '*/must-fail/*' ! -name '*.md' -print 2>/dev/null)
 
 target/bin/nvlist: $(sources)
-	@tests/build check nvlist
-	@touch -c $@
+	@tests/build program nvlist
 
 target/staticlib/libnvram_c.a: $(sources)
-	@tests/build staticlib nvram_c
-	@touch -c $@
+	@tests/build library nvram_c
 
 prefix = $(call quoted,$(value PREFIX))
 to = $(call quoted,$(value DESTDIR))$(prefix)
