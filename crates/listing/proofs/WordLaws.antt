@@ -155,6 +155,17 @@ pub line-sum : (image : List ℕ) (p : Partition) (h : Header) → h ≡ header_
     → a + b + n + 6 ≡ length (line image p)
 line-sum image p h e a b n ea eb en = sym (line-length image p ∙ rw (ea, eb, en, read_name image p.offset h e))
 
+-- the bytes of the line, by its pieces
+pub line-room : (image : List ℕ) (p : Partition) (h : Header) → h ≡ header_at image p.offset
+    → (length (decimal p.offset ++ 0x20 ∷ []) ≡ length (decimal p.offset) + 1)
+    × (length (decimal p.blocks.0 ++ 0x20 ∷ []) ≡ length (decimal p.blocks.0) + 1)
+    × (length (decimal p.offset) + length (decimal p.blocks.0) + length (shown_name h.name) + 6 ≡ length (line image p))
+line-room image p h e = (
+  length-append (decimal p.offset) (0x20 ∷ []),
+  length-append (decimal p.blocks.0) (0x20 ∷ []),
+  line-sum image p h e _ _ _ refl refl refl,
+)
+
 -- a line without its end, piece by piece
 abbrev pub line_words : Partition → List ℕ → List ℕ
 line_words p name =

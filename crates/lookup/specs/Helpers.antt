@@ -8,7 +8,6 @@ use Rattle.partitions.specs.Find.{find_of, only_of}
 use Rattle.lookup.specs.declared.Matched.{Matched}
 use Rattle.lookup.specs.declared.Matched.TheVariants.{None, One, Second}
 use Rattle.lookup.specs.declared.Searched.{Searched}
-use Rattle.lookup.specs.declared.Searched.TheVariants as Searched
 
 -- whether one more match counts; only: whether only one may match
 abbrev pub one_more_counts : Bool → Matched → Bool

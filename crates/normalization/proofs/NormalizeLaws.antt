@@ -20,7 +20,6 @@ use Rattle.values.specs.Helpers.{part, recoded, recoded_of, recoded_in}
 use Rattle.encoding.proofs.RecodeLaws.{Recodable, recoded-taken, recoded-short}
 use Rattle.errors.specs.declared.Error.{Error}
 use Rattle.pairs.specs.declared.PairAt.{PairAt}
-use Rattle.pairs.specs.declared.PairAt.TheVariants as PairAt
 use Rattle.pairs.specs.declared.Scanned.TheVariants as Scanned
 use Rattle.pairs.specs.declared.Place.{Place}
 use Rattle.pairs.specs.Scan.{pair, stand_at}

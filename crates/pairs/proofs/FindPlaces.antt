@@ -12,7 +12,6 @@ use Rattle.lists.specs.Bytes.{same_bytes}
 use Rattle.lists.proofs.ByteLaws.{same_false, same_step}
 use Rattle.values.specs.Helpers.{part}
 use Rattle.pairs.specs.declared.PairAt.{PairAt}
-use Rattle.pairs.specs.declared.PairAt.TheVariants as PairAt
 use Rattle.pairs.specs.declared.Place.{Place}
 use Rattle.pairs.specs.declared.Place.TheVariants.{At, None}
 use Rattle.pairs.specs.Scan.{Stand, pair, finish, cut, wrong_name, wrong_escape, stand_at}

@@ -13,7 +13,6 @@ use Rattle.repeats.specs.declared.Repeat.{Repeat}
 use Rattle.repeats.specs.declared.Repeat.TheVariants.{At, None}
 use Rattle.repeats.specs.Pieces.{ends_name, name_of, piece_name, starts_from, starts, repeat_in, first_repeat}
 use Rattle.pairs.specs.declared.PairAt.{PairAt}
-use Rattle.pairs.specs.declared.PairAt.TheVariants as PairAt
 use Rattle.pairs.specs.declared.Scanned.{Scanned}
 use Rattle.pairs.specs.declared.Scanned.TheVariants.{Pairs}
 use Rattle.pairs.specs.declared.Place.{Place}
@@ -170,20 +169,20 @@ parse-run (more {name} {stored} {l} {next} {ps = ps} s r) t (suc n) seen at last
 
 -- what stands where the walk ends, as a parse
 abbrev tail_parse : ℕ → PairAt → Parse
-tail_parse past (PairAt.Pair q e) = parsed []
-tail_parse past PairAt.End = parsed []
-tail_parse past PairAt.Cut = faulty AreaEnd past
-tail_parse past (PairAt.WrongName k) = faulty StoredName k
-tail_parse past (PairAt.WrongEscape k) = faulty Escape k
+tail_parse long (PairAt.Pair q e) = parsed []
+tail_parse long PairAt.End = parsed []
+tail_parse long PairAt.Cut = faulty AreaEnd long
+tail_parse long (PairAt.WrongName k) = faulty StoredName k
+tail_parse long (PairAt.WrongEscape k) = faulty Escape k
 
-tail-is : (at past : ℕ) (go : List (List ℕ) → ℕ → List ℕ → Parse) (seen : List (List ℕ)) (s : Stand)
-    → ((q e : ℕ) → place_of at s ≡ PairAt.Pair q e → ⊥) → on_stand s seen at past go ≡ tail_parse past (place_of at s)
+tail-is : (at long : ℕ) (go : List (List ℕ) → ℕ → List ℕ → Parse) (seen : List (List ℕ)) (s : Stand)
+    → ((q e : ℕ) → place_of at s ≡ PairAt.Pair q e → ⊥) → on_stand s seen at long go ≡ tail_parse long (place_of at s)
 unfolding place_of
-tail-is at past go seen (pair name stored rest) h = absurd (h _ _ refl)
-tail-is at past go seen finish h = refl
-tail-is at past go seen cut h = refl
-tail-is at past go seen (wrong_name k) h = refl
-tail-is at past go seen (wrong_escape k) h = refl
+tail-is at long go seen (pair name stored rest) h = absurd (h _ _ refl)
+tail-is at long go seen finish h = refl
+tail-is at long go seen cut h = refl
+tail-is at long go seen (wrong_name k) h = refl
+tail-is at long go seen (wrong_escape k) h = refl
 
 scanned-joined : (r : Repeat) (p : Parse) (x : Place) → or_repeat r (scanned_of p x) ≡ scanned_of (join_parse r p) x
 unfolding or_repeat scanned_of

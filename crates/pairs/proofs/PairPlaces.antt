@@ -17,7 +17,6 @@ use Rattle.repeats.specs.Pieces.{ends_name}
 use Rattle.pairs.specs.declared.ScanEnd.{ScanEnd}
 use Rattle.pairs.specs.declared.ScanEnd.TheVariants.{At, Wrong, Cut}
 use Rattle.pairs.specs.declared.PairAt.{PairAt}
-use Rattle.pairs.specs.declared.PairAt.TheVariants as PairAt
 use Rattle.pairs.specs.Scan.{Scan, ends, bad, short, scan_name, scan_value, Stand, pair, finish, cut, wrong_name, wrong_escape, on_value, on_name, stand_at}
 use Rattle.pairs.specs.Helpers.{end_of, place_of}
 use Rattle.pairs.proofs.NameScans.{and-ends, name-scan}

@@ -2,17 +2,12 @@
 use Rattle.std.specs.Prelude.{ℕ, zero, suc, ◌+◌, Bool, ◌||◌, cond, List, length, get_or, leb, eqb}
 use Rattle.lists.specs.Bytes.{same_bytes}
 use Rattle.repeats.specs.declared.Repeat.{Repeat}
-use Rattle.repeats.specs.declared.Repeat.TheVariants as Repeat
 use Rattle.errors.specs.declared.AreaFault.TheVariants.{AreaEnd, StoredName, Escape, Repeated}
 use Rattle.errors.specs.declared.Error.TheVariants.{BadArea}
 use Rattle.pairs.specs.declared.ScanEnd.{ScanEnd}
-use Rattle.pairs.specs.declared.ScanEnd.TheVariants as ScanEnd
 use Rattle.pairs.specs.declared.PairAt.{PairAt}
-use Rattle.pairs.specs.declared.PairAt.TheVariants as PairAt
 use Rattle.pairs.specs.declared.Scanned.{Scanned}
-use Rattle.pairs.specs.declared.Scanned.TheVariants as Scanned
 use Rattle.pairs.specs.declared.Place.{Place}
-use Rattle.pairs.specs.declared.Place.TheVariants as Place
 use Rattle.pairs.specs.Scan.{Scan, ends, bad, short, Stand, pair, finish, cut, wrong_name, wrong_escape, stand_at}
 use Rattle.pairs.specs.Area.{Parse, parsed, faulty, pairs_bytes}
 

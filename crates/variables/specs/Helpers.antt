@@ -6,9 +6,7 @@ use Rattle.names.specs.Name.{name_check, on_check}
 use Rattle.values.specs.Value.{decode}
 use Rattle.values.specs.Helpers.{part}
 use Rattle.pairs.specs.declared.Place.{Place}
-use Rattle.pairs.specs.declared.Place.TheVariants as Place
 use Rattle.pairs.specs.declared.Scanned.{Scanned}
-use Rattle.pairs.specs.declared.Scanned.TheVariants as Scanned
 use Rattle.pairs.specs.Area.{parse}
 use Rattle.pairs.specs.Helpers.{scanned_of, find_at}
 use Rattle.variables.specs.Edits.{Lookup, found, missing}

@@ -4,11 +4,8 @@ use Rattle.errors.specs.declared.Error.{Error}
 use Rattle.errors.specs.Errors.{code_of, offset_of}
 use Rattle.variables.specs.declared.CallAnswer.{CallAnswer}
 use Rattle.variables.specs.declared.Counted.{Counted}
-use Rattle.variables.specs.declared.Counted.TheVariants as Counted
 use Rattle.variables.specs.declared.Fetched.{Fetched}
-use Rattle.variables.specs.declared.Fetched.TheVariants as Fetched
 use Rattle.variables.specs.declared.Edited.{Edited}
-use Rattle.variables.specs.declared.Edited.TheVariants as Edited
 use Rattle.variables.specs.Calls.{Reply, done, refused}
 
 -- a call that is done, with its length or count

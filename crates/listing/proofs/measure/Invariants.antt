@@ -1,0 +1,11 @@
+-- `measure` meets its contract. The loop's invariant: the bytes and blocks so far, and what the rest of the walk adds, make the answer.
+use Prim.Native.Nat.{◌-◌}
+use lib.ListN.{length}
+use Rattle.listing.proofs.LinesLaws.{Measuring}
+use Rattle.listing.proofs.measure.Given as goal
+
+abbrev pub invariant-loop-p : goal.invariant-loop-p
+invariant-loop-p l = Measuring l.image l.cursor.at l.bytes l.blocks
+
+abbrev pub decreases-loop-p : goal.decreases-loop-p
+decreases-loop-p l = length l.image - l.cursor.at

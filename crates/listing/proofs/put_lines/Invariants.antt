@@ -1,0 +1,11 @@
+-- `put_lines` meets its contract. The loop's invariant: the lines before the cursor are written, and those of the rest of the walk are to come.
+use Prim.Native.Nat.{◌-◌}
+use lib.ListN.{length}
+use Rattle.listing.proofs.LinesLaws.{Writing}
+use Rattle.listing.proofs.put_lines.Given as goal
+
+abbrev pub invariant-loop-p : goal.invariant-loop-p
+invariant-loop-p l = Writing l.image l.initial.text l.start l.cursor.at l.at l.text
+
+abbrev pub decreases-loop-p : goal.decreases-loop-p
+decreases-loop-p l = length l.image - l.cursor.at
