@@ -16,7 +16,7 @@ help:
 # A word for the shell, whatever it holds.
 quoted = '$(subst ','\'',$(1))'
 
-# The whole card is read first, up to the byte by which it is too long: nvlist takes a read that fails for the card's end.
+# The whole card is read first, up to the byte by which it is too long, so that one that cannot be read is named.
 list: target/bin/nvlist
 	@card=$(call quoted,$(value CARD)); copy=$$(mktemp) || exit 1; trap 'rm -f "$$copy"' EXIT; \
 	if ! { head -c 65537 <"$$card" >"$$copy"; } 2>/dev/null; then \

@@ -13,7 +13,7 @@ fn main(rt: HostRuntime) -> io::Result<()> {
     let mut text = text_buffer();
     let n = read_full(&mut rt.stdin(), &mut image)?;
     let listed = listing::listing(&image[..n], &mut text);
-    // A listing always has room: `text_fits` of the crate listing.
+    // A listing always has room: `text-fits` of the crate listing.
     let Listed::Written { length } = listed else {
         return Ok(());
     };
