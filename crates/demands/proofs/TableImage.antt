@@ -64,6 +64,10 @@ misnamed-seen call I at t = refusal-seen call I (BadName at) (call_image call I)
 
 pub eleven-seen : {name : List ℕ} {i : ℕ} (r : Request) (I : List ℕ) → Takes r name → FirstWrong name i → seen r I ≡ refuses r I 11 i
 eleven-seen {name} {i} (variable call) I k w = misnamed-seen call I i (taken-name k ∙ (check-wrong-exactly name i).1 w)
+eleven-seen {name = name} {i = i} check I k w = elim k [ ]
+eleven-seen {name = name} {i = i} (partition _) I k w = elim k [ ]
+eleven-seen {name = name} {i = i} (find _ _) I k w = elim k [ ]
+eleven-seen {name = name} {i = i} (area _ _) I k w = elim k [ ]
 
 -- ---- 1 to 4, 20, and 6
 

@@ -22,17 +22,13 @@ use Rattle.partitions.specs.declared.Found.TheVariants.{At, Refused}
 use Rattle.partitions.specs.Find.{only_of, area_of}
 use Rattle.partitions.proofs.AreaLaws.{among-inside, area-part}
 use Rattle.variables.specs.declared.Counted.{Counted}
-use Rattle.variables.specs.declared.Counted.TheVariants as Counted
 use Rattle.variables.specs.declared.Fetched.{Fetched}
-use Rattle.variables.specs.declared.Fetched.TheVariants as Fetched
 use Rattle.variables.specs.declared.Edited.{Edited}
-use Rattle.variables.specs.declared.Edited.TheVariants as Edited
 use Rattle.variables.specs.Calls.{Action, set_to, removal, read_into, Call, named, set, remove, normalize, read, count, lent, call_check, Reply, call_area}
 use Rattle.variables.specs.Helpers.{reply_offset}
 use Rattle.variables.specs.Views.{count_reply, read_reply, edit_reply}
 use Rattle.variables.proofs.CallLaws.{check-named, check-normalize, check-count, Bufferless, a-count, buffer-none, reply-bounded}
 use Rattle.nvram.specs.declared.Span.{Span}
-use Rattle.nvram.specs.declared.Span.TheVariants as Span
 use Rattle.nvram.specs.Common.{common_signature, common, common_of}
 use Rattle.nvram.specs.Calls.{refusal, told_at, count_told, read_told, edit_told, Result, call_image}
 use Rattle.nvram.specs.Helpers.{area_span, name_first}

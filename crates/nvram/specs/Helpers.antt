@@ -8,7 +8,6 @@ use Rattle.names.specs.Name.{on_check}
 use Rattle.partitions.specs.declared.Found.{Found}
 use Rattle.partitions.specs.declared.Found.TheVariants.{At, Refused}
 use Rattle.nvram.specs.declared.Span.{Span}
-use Rattle.nvram.specs.declared.Span.TheVariants as Span
 
 -- where the variable area stands
 unfoldable pub area_span : Found → Span

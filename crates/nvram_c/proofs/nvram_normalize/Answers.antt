@@ -1,0 +1,10 @@
+-- `nvram_normalize` meets its contract: each output is the field of the answer.
+use mathlib.Core.Path.{◌∙◌}
+use mathlib.Core.List.{[]}
+use Rattle.nvram.specs.Calls.{with_buffer}
+use Rattle.nvram_c.proofs.nvram_normalize.Goals as goal
+
+pub returns : goal.returns
+returns c =
+    let e = (λ i. with_buffer (c.answer-normal.ensures i) []) ∙ c.normalize.ensures.result_value in
+    record { value = λ i. (e i).code; offset_after = λ i. (e i).offset; image_after = c.normalize.ensures.image_after }
