@@ -23,7 +23,7 @@ pub returns-then-to-from : goal.returns-then-to-from
 returns-then-to-from c =
     let a = c.args in
     c.move_down.ensures
-    ∙ moved_inside a.s.now a.from a.to a.n c.if-len-n.false c.if-len-n-2.false c.if-len-n-3.false
+    ∙ moved_inside a.s.now a.from a.to a.n c.if-len-n.false c.if-len-n-2.false (omega arith)
 
 pub returns-else-to-from : goal.returns-else-to-from
 returns-else-to-from c =
