@@ -9,13 +9,13 @@ area : (c : In-At) → AreaAt c.args.image.now c.in-At.start c.in-At.end
 area c = span-at c.args.image.now c.common_area.result c.common_area.ensures _ _ c.in-At.is
 
 pub slice_bounds-count-count : goal.slice_bounds-count-count
-slice_bounds-count-count c = omega (arith, (area (goal.at.slice_bounds-count-count c).In-At).order, (area (goal.at.slice_bounds-count-count c).In-At).inside)
+slice_bounds-count-count c = let w = area (goal.at.slice_bounds-count-count c).In-At in omega arith
 
 pub slice_bounds-count-start : goal.slice_bounds-count-start
-slice_bounds-count-start c = omega (arith, (area (goal.at.slice_bounds-count-start c).In-At).order, (area (goal.at.slice_bounds-count-start c).In-At).inside)
+slice_bounds-count-start c = let w = area (goal.at.slice_bounds-count-start c).In-At in omega arith
 
 pub slice_bounds-count-end : goal.slice_bounds-count-end
-slice_bounds-count-end c = omega (arith, (area (goal.at.slice_bounds-count-end c).In-At).order, (area (goal.at.slice_bounds-count-end c).In-At).inside)
+slice_bounds-count-end c = let w = area (goal.at.slice_bounds-count-end c).In-At in omega arith
 
 pub moved_error-requires : goal.moved_error-requires
 moved_error-requires c =
@@ -27,7 +27,8 @@ returns-in-Variables c =
 
 pub returns-in-Refused-count : goal.returns-in-Refused-count
 returns-in-Refused-count c =
-    count-moved _ _ _ (area (goal.at.returns-in-Refused-count c).In-At) c.count.result _ _ c.count.ensures c.in-Refused-count.is c.moved_error.ensures
+    count-moved _ _ _ (area (goal.at.returns-in-Refused-count c).In-At) c.count.result _ _
+    c.count.ensures c.in-Refused-count.is c.moved_error.ensures
 
 pub returns-in-Refused : goal.returns-in-Refused
 returns-in-Refused c =

@@ -10,13 +10,13 @@ area : (c : In-At) → AreaAt c.args.image.now c.in-At.start c.in-At.end
 area c = span-at c.args.image.now c.common_area.result c.common_area.ensures _ _ c.in-At.is
 
 pub slice_bounds-normalize-count : goal.slice_bounds-normalize-count
-slice_bounds-normalize-count c = omega (arith, (area (goal.at.slice_bounds-normalize-count c).In-At).order, (area (goal.at.slice_bounds-normalize-count c).In-At).inside)
+slice_bounds-normalize-count c = let w = area (goal.at.slice_bounds-normalize-count c).In-At in omega arith
 
 pub slice_bounds-normalize-start : goal.slice_bounds-normalize-start
-slice_bounds-normalize-start c = omega (arith, (area (goal.at.slice_bounds-normalize-start c).In-At).order, (area (goal.at.slice_bounds-normalize-start c).In-At).inside)
+slice_bounds-normalize-start c = let w = area (goal.at.slice_bounds-normalize-start c).In-At in omega arith
 
 pub slice_bounds-normalize-end : goal.slice_bounds-normalize-end
-slice_bounds-normalize-end c = omega (arith, (area (goal.at.slice_bounds-normalize-end c).In-At).order, (area (goal.at.slice_bounds-normalize-end c).In-At).inside)
+slice_bounds-normalize-end c = let w = area (goal.at.slice_bounds-normalize-end c).In-At in omega arith
 
 pub moved_edit-requires : goal.moved_edit-requires
 moved_edit-requires c =
@@ -25,7 +25,10 @@ moved_edit-requires c =
 pub returns-in-At : goal.returns-in-At
 returns-in-At c =
     let w = area (goal.at.returns-in-At c).In-At in
-    record { result_value = edit-answer _ _ _ w a-normalize c.normalize-answer.result c.moved_edit.result c.normalize-answer.ensures.result_value c.moved_edit.ensures; image_after = edit-image _ _ _ w _ _ (omega arith) c.normalize-answer.ensures.area_after }
+    record {
+      result_value = edit-answer _ _ _ w a-normalize c.normalize-answer.result c.moved_edit.result c.normalize-answer.ensures.result_value c.moved_edit.ensures;
+      image_after = edit-image _ _ _ w _ _ (omega arith) c.normalize-answer.ensures.area_after;
+    }
 
 pub returns-in-Refused : goal.returns-in-Refused
 returns-in-Refused c =

@@ -9,13 +9,13 @@ area : (c : In-At) → AreaAt c.args.image.now c.in-At.start c.in-At.end
 area c = span-at c.args.image.now c.common_area.result c.common_area.ensures _ _ c.in-At.is
 
 pub slice_bounds-read-count : goal.slice_bounds-read-count
-slice_bounds-read-count c = omega (arith, (area (goal.at.slice_bounds-read-count c).In-At).order, (area (goal.at.slice_bounds-read-count c).In-At).inside)
+slice_bounds-read-count c = let w = area (goal.at.slice_bounds-read-count c).In-At in omega arith
 
 pub slice_bounds-read-start : goal.slice_bounds-read-start
-slice_bounds-read-start c = omega (arith, (area (goal.at.slice_bounds-read-start c).In-At).order, (area (goal.at.slice_bounds-read-start c).In-At).inside)
+slice_bounds-read-start c = let w = area (goal.at.slice_bounds-read-start c).In-At in omega arith
 
 pub slice_bounds-read-end : goal.slice_bounds-read-end
-slice_bounds-read-end c = omega (arith, (area (goal.at.slice_bounds-read-end c).In-At).order, (area (goal.at.slice_bounds-read-end c).In-At).inside)
+slice_bounds-read-end c = let w = area (goal.at.slice_bounds-read-end c).In-At in omega arith
 
 pub moved_error-requires : goal.moved_error-requires
 moved_error-requires c =
@@ -27,8 +27,8 @@ returns-in-Length c =
 
 pub returns-in-Refused-read : goal.returns-in-Refused-read
 returns-in-Refused-read c =
-    read-moved _ _ _ (area (goal.at.returns-in-Refused-read c).In-At) _ _ c.read.result c.read.ensures.result_value _ _ _ c.read.ensures.buffer_after c.in-Refused-read.is
-    c.moved_error.ensures
+    read-moved _ _ _ (area (goal.at.returns-in-Refused-read c).In-At) _ _ c.read.result c.read.ensures.result_value _ _ _ c.read.ensures.buffer_after
+    c.in-Refused-read.is c.moved_error.ensures
 
 pub returns-in-Refused : goal.returns-in-Refused
 returns-in-Refused c =

@@ -6,4 +6,9 @@ use Rattle.nvram_c.proofs.nvram_find.Goals as goal
 pub returns : goal.returns
 returns c =
     let e = c.answer-found.ensures ∙ ap find_answer c.find.ensures in
-    record { value = λ i. (e i).code; offset_after = λ i. (e i).offset; header_after = λ i. (e i).header; blocks_after = λ i. (e i).blocks }
+    record {
+      value = λ i. (e i).code;
+      offset_after = λ i. (e i).offset;
+      header_after = λ i. (e i).header;
+      blocks_after = λ i. (e i).blocks;
+    }

@@ -6,4 +6,10 @@ use Rattle.nvram_c.proofs.nvram_partition.Goals as goal
 pub returns : goal.returns
 returns c =
     let e = c.answer-indexed.ensures ∙ ap find_answer c.by_index.ensures in
-    record { value = λ i. (e i).code; offset_after = λ i. (e i).offset; header_after = λ i. (e i).header; blocks_after = λ i. (e i).blocks; signature_after = λ i. (e i).signature }
+    record {
+      value = λ i. (e i).code;
+      offset_after = λ i. (e i).offset;
+      header_after = λ i. (e i).header;
+      blocks_after = λ i. (e i).blocks;
+      signature_after = λ i. (e i).signature;
+    }
