@@ -1,19 +1,18 @@
 -- Laws of a block: pieces are gathered into its table, and the later pieces looked up in it.
-use Prim.Native.Nat.{ℕ, ◌+◌, ◌*◌, ◌<◌, ◌≤◌}
+use Prim.Native.Nat.{ℕ, ◌+◌, ◌-◌, ◌<◌, ◌≤◌}
 use mathlib.Core.Path.{◌≡◌, refl, sym, ap, ◌∙◌, subst}
-use mathlib.Core.Bool.{true, false}
 use mathlib.Core.List.{List}
 use native.Mathlib.Omega.{arith}
 use lib.Dec.{ltb}
-use lib.ListN.{length, get_or, set, replicate, length-replicate}
+use lib.ListN.{length, get_or, set}
 use lib.Seq.{get_or-set_same, get_or-set_other}
 use borrow.Author.Tests.{ltb-true, ltb-false}
 use Rattle.lists.proofs.Tests.{split}
 use Rattle.repeats.specs.Pieces.{piece_name, starts}
-use Rattle.repeats.specs.Helpers.Places.{Start, Next, Distinct, Best}
-use Rattle.repeats.specs.Helpers.Table.{placed, Table, Hit, Walked, Slot, Filled, Block, Turn, Gathered}
-use Rattle.repeats.proofs.PlacedLaws.{placed-length}
-use Rattle.repeats.proofs.TableLaws.{split-eq, inserted, new-table}
+use Rattle.repeats.specs.Helpers.Places.{Start, Next, Distinct, Best, Open}
+use Rattle.repeats.specs.Helpers.Table.{Trees, Hit, Missed, Slot, Filled, Block, Turn, Gathered}
+use Rattle.repeats.proofs.StartLaws.{next_low, best-start}
+use Rattle.repeats.proofs.TableLaws.{split-eq, inserted}
 
 -- a block
 pub empty_holds : (l starts : List ℕ) (from : ℕ) → Filled l starts 0 from from
@@ -24,10 +23,10 @@ empty_holds l starts from = record {
   full = λ p a b s. absurd (omega arith);
 }
 
-pub empty_block : {l links starts : List ℕ} {from best : ℕ} → Table l links starts 0 → Distinct l from best → from < best
+pub empty_block : {l links starts : List ℕ} {from best : ℕ} → Trees l links starts 0 → Distinct l from best → from < best
     → best ≤ length l → Start l from → Block l links starts 0 from from best
 empty_block {l} {links} {starts} {from} {best} t d h b s = record {
-  table = t;
+  trees = t;
   holds = empty_holds l starts from;
   from_low = omega arith;
   at_high = omega arith;
@@ -87,38 +86,60 @@ holds_more {l} {starts} {k} {from} {at} {r} room hs o st n = record {
 
 module _ {l links starts : List ℕ} {k from at best : ℕ} (s : Block l links starts k from at best) where
   pub block_more : (links' starts' : List ℕ) (link r : ℕ) → Distinct l from best → at < best → k < length starts
-      → Walked l links starts k at link false → links' ≡ set links link (k + 1) → starts' ≡ set starts k at → Next l at r
+      → Missed l links starts k at link → links' ≡ set links link (k + 1) → starts' ≡ set starts k at → Next l at r
       → r ≤ best → Block l links' starts' (k + 1) from r best
   block_more links' starts' link r d h room look e g n f = record {
-    table = rw (e, g) (inserted at s.table room (s.begins h).inside (look.free refl));
+    trees = rw (e, g) (inserted at s.trees room (s.begins h).inside look.free);
     holds = rw g (holds_more room s.holds s.from_low (s.begins h) n);
     from_low = omega (arith, s.from_low, n.falls);
     at_high = f;
     best-in = s.best-in;
     begins = λ w. n.start (omega (arith, s.best-in));
-    apart = distinct-grow s.holds d s.apart h n (look.missed refl);
+    apart = distinct-grow s.holds d s.apart h n look.other;
   }
 
-  pub block-hit : {link : ℕ} → at < best → Walked l links starts k at link true → Gathered l links starts k from at best true
-  block-hit h look =
-      let t : Hit l starts k at = look.found refl in
-      record {
-        block = s;
-        further = omega (arith, s.holds.low t.entry t.below, s.holds.high t.entry t.below);
-        early = λ _. record {
-          place = get_or starts t.entry 0;
-          before = s.holds.high t.entry t.below;
-          first = s.holds.begins t.entry t.below;
-          second = s.begins h;
-          same = t.same;
-        };
-      }
+  -- a name that stands in the block is a repeat, and no piece is sought past it
+  pub block-hit : at < best → Distinct l from best → Hit l starts k at → Gathered l links starts k from at at
+  block-hit h d t = record {
+    block = record {
+      trees = s.trees;
+      holds = s.holds;
+      from_low = s.from_low;
+      at_high = omega arith;
+      best-in = omega (arith, s.best-in);
+      begins = λ w. absurd (omega arith);
+      apart = s.apart;
+    };
+    distinct = record { differ = λ p q a b c u v e. d.differ p q a b (omega arith) u v e };
+    better = record {
+      inside = omega (arith, s.best-in);
+      hit = λ _. record {
+        place = get_or starts t.entry 0;
+        before = s.holds.high t.entry t.below;
+        first = s.holds.begins t.entry t.below;
+        second = s.begins h;
+        same = t.same;
+      };
+    };
+  }
 
-  pub block-done : from < at → Gathered l links starts k from at best false
-  block-done h = record { block = s; further = h; early = λ e. let z : ◌≡◌ {A = ℕ} 0 1 = cc in absurd (omega arith) }
+  -- a block that has an entry goes past its first byte
+  pub block-past : {i : ℕ} → i < k → from < at
+  block-past {i} h = omega (arith, s.holds.low i h, s.holds.high i h)
 
-  pub block-full : length starts ≤ k → Gathered l links starts k from at best false
-  block-full h = let z : 0 < k = omega (arith, s.table.some) in block-done (omega (arith, s.holds.low 0 z, s.holds.high 0 z))
+-- a piece more in the block
+pub gathered-more : {l l' links links' starts starts' : List ℕ} {k k' from from' at best far link r : ℕ} → Gathered l links starts k from at best
+    → at < best → k < length starts → Missed l links starts k at link → links' ≡ set links link (k + 1) → starts' ≡ set starts k (from + far)
+    → far ≡ at - from → k' ≡ k + 1 → from' ≡ from → l' ≡ l → Next l' at r → Gathered l' links' starts' k' from' r best
+gathered-more {l} {links = links} {links' = links'} {starts = starts} {starts' = starts'} {k = k} {from = from} {at = at} {best = best} {far = far} {link = link} {r = r} s h room look e g q w v t n =
+    let m : Next l at r = subst (λ (x : List ℕ). Next x at r) t n in
+    let o : r ≤ best = next_low m h s.block.best-in (best-start s.better) in
+    let z : from + far ≡ at = omega (arith, s.block.from_low) in
+    rw (t, w, v) (record {
+      block = block_more s.block links' starts' link r s.distinct h room look e (g ∙ ap (λ x. set starts k x) z) m o;
+      distinct = s.distinct;
+      better = s.better;
+    })
 
 -- the rest of the area against a block
 pub record Scanned (l : List ℕ) (from mid best at : ℕ) : Type 0 where
@@ -133,34 +154,32 @@ module _ {l links starts : List ℕ} {k from mid best : ℕ} (s : Block l links 
   scan-none = record { apart = s.apart; low = omega arith; begins = s.begins; high = s.at_high }
 
   pub scan-more : {at r link : ℕ} → Scanned l from mid best at → Distinct l from best → at < best
-      → Walked l links starts k at link false → Next l at r → r ≤ best → Scanned l from mid best r
+      → Missed l links starts k at link → Next l at r → r ≤ best → Scanned l from mid best r
   scan-more {at} {r} {link} c d h look n f = record {
-    apart = distinct-next s.holds d c.apart h c.low n (look.missed refl);
+    apart = distinct-next s.holds d c.apart h c.low n look.other;
     low = omega (arith, c.low, n.falls);
     begins = λ w. n.start (omega (arith, s.best-in));
     high = f;
   }
 
-  pub scan-hit : {at link : ℕ} → Scanned l from mid best at → from < mid → at < best → Walked l links starts k at link true → Turn l from best mid at
-  scan-hit {at} c w h look =
-      let t : Hit l starts k at = look.found refl in
-      record {
-        distinct = c.apart;
-        better = record {
-          inside = omega (arith, s.best-in);
-          hit = λ _. record {
-            place = get_or starts t.entry 0;
-            before = omega (arith, s.holds.high t.entry t.below, c.low);
-            first = s.holds.begins t.entry t.below;
-            second = c.begins h;
-            same = t.same;
-          };
-        };
-        further = w;
-        begins = λ y. s.begins (omega arith);
-      }
+  pub scan-hit : {at : ℕ} → Scanned l from mid best at → from < mid → at < best → Hit l starts k at → Turn l from mid at
+  scan-hit {at} c w h t = record {
+    distinct = c.apart;
+    better = record {
+      inside = omega (arith, s.best-in);
+      hit = λ _. record {
+        place = get_or starts t.entry 0;
+        before = omega (arith, s.holds.high t.entry t.below, c.low);
+        first = s.holds.begins t.entry t.below;
+        second = c.begins h;
+        same = t.same;
+      };
+    };
+    further = w;
+    begins = λ y. s.begins (omega arith);
+  }
 
-  pub scan-end : {at : ℕ} → Scanned l from mid best at → from < mid → best ≤ at → Best l best → Turn l from best mid best
+  pub scan-end : {at : ℕ} → Scanned l from mid best at → from < mid → best ≤ at → Best l best → Turn l from mid best
   scan-end {at} c w h b = record {
     distinct = record { differ = λ p q a b c' u v e. c.apart.differ p q a b (omega arith) u v e };
     better = b;
@@ -168,21 +187,6 @@ module _ {l links starts : List ℕ} {k from mid best : ℕ} (s : Block l links 
     begins = λ y. s.begins y;
   }
 
-pub turn-hit : {l links starts : List ℕ} {k from at best : ℕ} → Gathered l links starts k from at best true → Turn l from best at at
-turn-hit {l} {links} {starts} {k} {from} {at} {best} f = record {
-  distinct = f.block.apart;
-  better = record { inside = omega (arith, f.block.at_high, f.block.best-in); hit = λ _. f.early refl };
-  further = f.further;
-  begins = λ y. absurd (omega arith);
-}
-
--- a block in a new table of n entries
-pub new-block : (l : List ℕ) (from best m n : ℕ) → m ≡ 3 * n → 0 < n → n < 65536 → Distinct l from best × Best l best × (from < best) × Start l from
-    → Block l (replicate m 0) (placed from (replicate n 0)) 0 from from best × Distinct l from best × Best l best × (from < best)
-new-block l from best m n e p q s =
-    let o : length (placed from (replicate n 0)) ≡ n = placed-length from (replicate n 0) ∙ length-replicate {A = ℕ} n 0 in (
-      empty_block (new-table l m (placed from (replicate n 0)) (omega arith) (omega arith) (omega arith)) s.0 s.2 s.1.inside s.3,
-      s.0,
-      s.1,
-      s.2,
-    )
+-- a new table has gathered nothing
+pub new-block : {l links starts : List ℕ} {from best : ℕ} → Trees l links starts 0 → Open l from best → Gathered l links starts 0 from from best
+new-block t o = record { block = empty_block t o.distinct o.below o.better.inside o.begins; distinct = o.distinct; better = o.better }

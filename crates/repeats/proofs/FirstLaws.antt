@@ -10,8 +10,7 @@ use borrow.Author.Tests.{eqb-true, eqb-false, ltb-true, ltb-false}
 use Rattle.lists.specs.Bytes.{same_bytes, stands}
 use Rattle.lists.proofs.Tests.{split}
 use Rattle.lists.proofs.ByteLaws.{same_refl, same_true}
-use Rattle.std.specs.declared.option.Option.{Option}
-use Rattle.std.specs.declared.option.Option.TheVariants.{Some, None}
+use Rattle.std.specs.Bool.{then_some}
 use Rattle.repeats.specs.Pieces.{piece_name, starts_from, starts, repeat_in, first_repeat}
 use Rattle.repeats.specs.Helpers.Places.{Start, Distinct, Early, Best}
 use Rattle.lists.proofs.ListLaws.{drop-next}
@@ -64,16 +63,11 @@ seen_same l at seen st s = record {
       (λ t. let e : p ≡ at = omega (arith, ltb-false p at t) in absurd (st (subst (λ (z : ℕ). Start l z) e u)));
 }
 
--- the answer: at `best`, or none at the end
-unfoldable answer : Bool → ℕ → Option ℕ
-answer true best = Some best
-answer false best = None
-
 module _ (l : List ℕ) (best : ℕ) (found : Bool) (d : Distinct l best best) (inside : best ≤ length l)
     (hit : found ≡ true → Early l best) (miss : found ≡ false → best ≡ length l) where
   first-from : (rest : List ℕ) (at : ℕ) (fresh : Bool) (seen : List (List ℕ)) → at ≤ best → rest ≡ drop at l → Fresh l at fresh → Seen l at seen
-      → answer found best ≡ repeat_in l seen (starts_from fresh at rest)
-  unfolding starts_from repeat_in answer
+      → then_some found best ≡ repeat_in l seen (starts_from fresh at rest)
+  unfolding starts_from repeat_in
   first-from [] at fresh seen h e f s = split found
       (λ t. let st : Start l best = (hit t).second in let n : length (drop at l) ≡ 0 = ap length (sym e) in absurd (omega (arith, length-drop at l, st.inside)))
       (λ t. rw t)
@@ -87,8 +81,8 @@ module _ (l : List ℕ) (best : ℕ) (found : Bool) (d : Distinct l best best) (
       go fresh f i (λ seen' m s'. first-from rest (at + 1) (eqb b 0) seen' m cr fn s')
     where
       go : (fresh : Bool) → Fresh l at fresh → at < length l
-          → ((seen' : List (List ℕ)) → at + 1 ≤ best → Seen l (at + 1) seen' → answer found best ≡ repeat_in l seen' (starts_from (eqb b 0) (at + 1) rest))
-          → answer found best ≡ repeat_in l seen (starts_from fresh at (b ∷ rest))
+          → ((seen' : List (List ℕ)) → at + 1 ≤ best → Seen l (at + 1) seen' → then_some found best ≡ repeat_in l seen' (starts_from (eqb b 0) (at + 1) rest))
+          → then_some found best ≡ repeat_in l seen (starts_from fresh at (b ∷ rest))
       go true f i rec =
           let st : Start l at = record { inside = i; after = f.yes refl } in
           split (stands (piece_name l at) seen)
@@ -118,7 +112,7 @@ module _ (l : List ℕ) (best : ℕ) (found : Bool) (d : Distinct l best best) (
           (λ y. absurd (no (subst (λ (z : ℕ). Start l z) (sym q) (hit y).second)))
           (λ y. absurd (omega (arith, miss y))))
 
-  first-is : answer found best ≡ first_repeat l
+  first-is : then_some found best ≡ first_repeat l
   unfolding first_repeat starts stands
   first-is = first-from l 0 true [] (omega arith) refl
       (record { yes = λ _ z. absurd (omega arith); no = λ e. let z : ◌≡◌ {A = ℕ} 0 1 = cc in absurd (omega arith) })
@@ -127,16 +121,9 @@ module _ (l : List ℕ) (best : ℕ) (found : Bool) (d : Distinct l best best) (
 shrink : {l : List ℕ} {from best : ℕ} → best ≤ from → Distinct l from best → Distinct l best best
 shrink h d = record { differ = λ p q a b c u v e. d.differ p q (omega arith) b c u v e }
 
-pub first-at : {l : List ℕ} {from best : ℕ} → Distinct l from best → Best l best → best ≤ from → best < length l → Some best ≡ first_repeat l
-unfolding answer
-first-at {l} {from} {best} d b h i =
-    first-is l best true (shrink h d) b.inside (λ _. b.hit i) (λ e. let z : ◌≡◌ {A = ℕ} 0 1 = cc in absurd (omega arith))
-
-pub first-none : {l : List ℕ} {from best : ℕ} → Distinct l from best → Best l best → best ≤ from → length l ≤ best → None ≡ first_repeat l
-unfolding answer
-first-none {l} {from} {best} d b h i =
-    first-is l best false (shrink h d) b.inside (λ e. let z : ◌≡◌ {A = ℕ} 0 1 = cc in absurd (omega arith))
-    (λ _. omega (arith, b.inside))
+pub first-found : {l : List ℕ} {from best : ℕ} → Distinct l from best → Best l best → best ≤ from → then_some (ltb best (length l)) best ≡ first_repeat l
+first-found {l} {from} {best} d b h =
+    first-is l best (ltb best (length l)) (shrink h d) b.inside (λ e. b.hit (ltb-true best (length l) e)) (λ e. omega (arith, b.inside, ltb-false best (length l) e))
 
 -- the loop's start
 pub none_yet : (l : List ℕ) → Distinct l 0 (length l)

@@ -1,6 +1,6 @@
-pub mod NameLaws
 pub mod StartLaws
-pub mod PlacedLaws
+pub mod NameLaws
+pub mod LinkLaws
 pub mod TableLaws
 pub mod BlockLaws
 pub mod FirstLaws

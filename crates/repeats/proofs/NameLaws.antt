@@ -1,82 +1,94 @@
--- Laws of a name: read byte by byte, its end, its comparison with another and its hash.
-use Prim.Native.Nat.{ℕ, zero, suc, ◌+◌, ◌*◌, ◌/◌, ◌%◌, ◌^◌, ◌<◌, ◌≤◌}
-use mathlib.Core.Path.{◌≡◌, refl, sym, ◌∙◌}
-use mathlib.Core.Logic.{◌⊎◌, ⊎_elim, inl, inr}
-use mathlib.Core.Bool.{true, false}
-use mathlib.Core.List.{List}
-use native.Mathlib.Omega.{arith}
-use lib.Bits.{xor_lt}
-use lib.Dec.{ltb}
-use lib.ListN.{length, get_or, drop_of_length-le}
-use borrow.Author.Tests.{eq-eqb, ne_eqb, ltb-true, ltb-false}
+-- Laws of a name: it is the bytes of its piece up to the first that ends one.
+use Rattle.std.proofs.Common.{◌≡◌, ℕ, ◌-◌, ◌≤◌, suc, Bool, true, false, not, cond, List, [], ◌∷◌, ◌&&◌, refl, ap, ap₂, sym, ◌∙◌, nat_eq, drop, take, length, get_or}
+use Rattle.std.specs.List.{take_while, zip}
+use Rattle.repeats.specs.Helpers.Names.{common}
+use Rattle.std.proofs.lemmas.List.{take_rest, get_or_past}
+use Rattle.std.proofs.lemmas.List.Sums.{take_while-cons}
 use Rattle.lists.specs.Bytes.{same_bytes}
 use Rattle.lists.proofs.Tests.{split}
+use borrow.Author.Tests.{eqb-true, eq-eqb}
+use Rattle.lists.proofs.ByteLaws.{same_true, same_not}
 use Rattle.repeats.specs.Pieces.{ends_name, name_of, piece_name}
-use Rattle.repeats.specs.Helpers.Places.{PieceByte}
-use Rattle.repeats.specs.Helpers.Table.{mixed, hash_from, hash_of}
-use Rattle.lists.proofs.ListLaws.{drop-next}
 
--- a byte of a name
-pub name-none : (l : List ℕ) (at : ℕ) → length l ≤ at → PieceByte l at 0
-unfolding piece_name name_of
-name-none l at h = record { ended = λ _. rw (drop_of_length-le l h); goes = λ z. absurd (omega arith); within = λ z. absurd (omega arith) }
+-- the name at the start of these bytes
+name-while : (l : List ℕ) → take_while (λ b. not (ends_name b)) l ≡ name_of l
+unfolding name_of
+name-while [] = refl
+name-while (b ∷ l) = take_while-cons (λ b. not (ends_name b)) b l
+    ∙ elim (ends_name b) as (λ e. cond (not e) (b ∷ take_while (λ b. not (ends_name b)) l) [] ≡ elim e as (λ _. List ℕ) [ true ↦ [] | false ↦ b ∷ name_of l ]) [ true ↦ refl | false ↦ ap (λ z. b ∷ z) (name-while l) ]
 
-pub name-stop : (l : List ℕ) (at : ℕ) → at < length l → get_or l at 0 ≡ 61 → PieceByte l at 0
-unfolding piece_name name_of ends_name
-name-stop l at h e = record { ended = λ _. rw (drop-next l at h, e, name_of); goes = λ z. absurd (omega arith); within = λ z. absurd (omega arith) }
+-- the name of a piece, as the rest of the pairs from there on is lent
+piece-rest : (l : List ℕ) (at : ℕ) → name_of (take (length l - at) (drop at l)) ≡ piece_name l at
+unfolding piece_name
+piece-rest l at = ap name_of (take_rest l at)
 
-pub name-byte : (l : List ℕ) (at : ℕ) → at < length l → (get_or l at 0 ≡ 61 → ⊥) → PieceByte l at (get_or l at 0)
-unfolding piece_name name_of ends_name
-name-byte l at h e = record {
-  ended = λ z. rw (drop-next l at h, z, name_of);
-  goes = λ z. rw (drop-next l at h, ne_eqb (get_or l at 0) 61 e, ne_eqb (get_or l at 0) 0 (λ q. omega arith), name_of);
-  within = λ z. h;
-}
+pub piece-while : (l : List ℕ) (at : ℕ) → take_while (λ b. not (ends_name b)) (take (length l - at) (drop at l)) ≡ piece_name l at
+piece-while l at = name-while _ ∙ piece-rest l at
 
--- two names, byte by byte
-module _ {l : List ℕ} {i j x y : ℕ} (a : PieceByte l i x) (b : PieceByte l j y) where
-  pub bytes-end : x ≡ y → x ≡ 0 → same_bytes (piece_name l i) (piece_name l j) ≡ true
+-- two names that are compared
+module _ (l : List ℕ) (p q : ℕ) {r : Bool} (e : r ≡ same_bytes (name_of (take (length l - p) (drop p l))) (name_of (take (length l - q) (drop q l)))) where
+  same : r ≡ same_bytes (piece_name l p) (piece_name l q)
+  same = e ∙ ap₂ same_bytes (piece-rest l p) (piece-rest l q)
+
+  pub names-same : r ≡ true → piece_name l p ≡ piece_name l q
+  names-same t = same_true _ _ (sym same ∙ t)
+
+  pub names-differ : r ≡ false → piece_name l p ≡ piece_name l q → ⊥
+  names-differ f = same_not _ _ (sym same ∙ f)
+
+-- a name has ended past the bytes
+ends-zero : ends_name 0 ≡ true
+unfolding ends_name
+ends-zero = refl
+
+pub ended-past : (l : List ℕ) (at : ℕ) → length l ≤ at → true ≡ ends_name (get_or l at 0)
+ended-past l at h = sym (ap ends_name (get_or_past l at 0 h) ∙ ends-zero)
+
+-- a byte more in both pieces
+abbrev agree : ℕ × ℕ → Bool
+agree p = nat_eq p.0 p.1 && not (ends_name p.0)
+
+abbrev end-in : ℕ → ℕ → ℕ → ℕ
+end-in a b n = cond (nat_eq a b && not (ends_name a)) (suc n) 0
+
+common-cons : (a b : ℕ) (x y : List ℕ) → common (a ∷ x) (b ∷ y) ≡ end-in a b (common x y)
+common-cons a b x y = ap length (take_while-cons agree (a, b) (zip x y))
+    ∙ elim (nat_eq a b && not (ends_name a)) as (λ e. length (cond e ((a, b) ∷ take_while agree (zip x y)) []) ≡ cond e (suc (common x y)) 0) [ true ↦ refl | false ↦ refl ]
+
+name-ended : (a : ℕ) (x : List ℕ) → ends_name a ≡ true → name_of (a ∷ x) ≡ []
+unfolding name_of
+name-ended a x e = ap (λ (t : Bool). elim t as (λ _. List ℕ) [ true ↦ [] | false ↦ a ∷ name_of x ]) e
+
+name-goes : (a : ℕ) (x : List ℕ) → ends_name a ≡ false → name_of (a ∷ x) ≡ a ∷ name_of x
+unfolding name_of
+name-goes a x e = ap (λ (t : Bool). elim t as (λ _. List ℕ) [ true ↦ [] | false ↦ a ∷ name_of x ]) e
+
+module _ (x y : List ℕ) (n : ℕ) (same : (ends_name (get_or x n 0) && ends_name (get_or y n 0)) ≡ same_bytes (name_of x) (name_of y)) where
+  same-byte : (a : ℕ) → nat_eq a a ≡ true → (ends_name (get_or (a ∷ x) (end-in a a n) 0) && ends_name (get_or (a ∷ y) (end-in a a n) 0)) ≡ same_bytes (name_of (a ∷ x)) (name_of (a ∷ y))
   unfolding same_bytes
-  bytes-end e z = rw (a.ended z, b.ended (sym e ∙ z))
+  same-byte a q = split (ends_name a)
+      (λ e. rw (q, e, name-ended a x e, name-ended a y e, e) refl)
+      (λ e. rw (q, e, name-goes a x e, name-goes a y e) (same ∙ sym (ap (λ (t : Bool). t && same_bytes (name_of x) (name_of y)) q)))
 
-  pub bytes_same : x ≡ y → (x ≡ 0 → ⊥) → same_bytes (piece_name l i) (piece_name l j) ≡ same_bytes (piece_name l (i + 1)) (piece_name l (j + 1))
+  other-byte : (a b : ℕ) → nat_eq a b ≡ false → (ends_name (get_or (a ∷ x) (end-in a b n) 0) && ends_name (get_or (b ∷ y) (end-in a b n) 0)) ≡ same_bytes (name_of (a ∷ x)) (name_of (b ∷ y))
   unfolding same_bytes
-  bytes_same e z = rw (a.goes (omega arith), b.goes (omega arith), eq-eqb x y e)
+  other-byte a b q = rw q (split (ends_name a)
+      (λ e. split (ends_name b)
+      (λ f. rw (e, f, name-ended a x e, name-ended b y f) refl)
+      (λ f. rw (e, f, name-ended a x e, name-goes b y f) refl))
+      (λ e. split (ends_name b)
+      (λ f. rw (e, name-goes a x e, name-ended b y f) refl)
+      (λ f. rw (e, name-goes a x e, name-goes b y f) (sym (ap (λ (t : Bool). t && same_bytes (name_of x) (name_of y)) q)))))
 
-  pub bytes-differ : (x ≡ y → ⊥) → same_bytes (piece_name l i) (piece_name l j) ≡ false
-  unfolding same_bytes
-  bytes-differ e = split (ltb 0 x)
-      (λ p. split (ltb 0 y)
-      (λ q. rw (a.goes (ltb-true 0 x p), b.goes (ltb-true 0 y q), ne_eqb x y e))
-      (λ q. let z : y ≡ 0 = omega (arith, ltb-false 0 y q) in rw (a.goes (ltb-true 0 x p), b.ended z)))
-      (λ p. let w : x ≡ 0 = omega (arith, ltb-false 0 x p) in
-      let y0 : 0 < y = ⊎_elim (λ k. k) (λ k. absurd (e (w ∙ sym k))) (pos y) in
-      rw (a.ended w, b.goes y0))
-    where
-      pos : (n : ℕ) → (0 < n) ⊎ (n ≡ 0)
-      pos zero = inr refl
-      pos (suc n) = inl (omega arith)
+-- two names are the same if both end behind what they have in common
+ended-same : (x y : List ℕ) → (ends_name (get_or x (common x y) 0) && ends_name (get_or y (common x y) 0)) ≡ same_bytes (name_of x) (name_of y)
+unfolding name_of same_bytes
+ended-same [] [] = rw ends-zero refl
+ended-same [] (b ∷ y) = rw ends-zero (elim (ends_name b) as (λ e. e ≡ same_bytes [] (elim e as (λ _. List ℕ) [ true ↦ [] | false ↦ b ∷ name_of y ])) [ true ↦ refl | false ↦ refl ])
+ended-same (a ∷ x) [] = rw ends-zero (elim (ends_name a) as (λ e. (e && true) ≡ same_bytes (elim e as (λ _. List ℕ) [ true ↦ [] | false ↦ a ∷ name_of x ]) []) [ true ↦ refl | false ↦ refl ])
+ended-same (a ∷ x) (b ∷ y) = rw (common-cons a b x y) (split (nat_eq a b)
+    (λ q. let e : b ≡ a = sym (eqb-true a b q) in rw e (same-byte x y (common x y) (ended-same x y) a (eq-eqb a a refl)))
+    (λ q. other-byte x y (common x y) (ended-same x y) a b q))
 
--- the hash
-pub hash-end : {l : List ℕ} {i x : ℕ} (h : ℕ) → PieceByte l i x → x ≡ 0 → hash_from h (piece_name l i) ≡ h
-unfolding hash_from
-hash-end h a z = rw (a.ended z)
-
-pub hash-step : {l : List ℕ} {i x : ℕ} (h : ℕ) → PieceByte l i x → (x ≡ 0 → ⊥) → hash_from h (piece_name l i) ≡ hash_from (mixed h x) (piece_name l (i + 1))
-unfolding hash_from
-hash-step h a z = rw (a.goes (omega arith))
-
-pub hash-is : (name : List ℕ) (h : ℕ) → hash_from 11400714819323198485 name ≡ h → h ≡ hash_of name
-unfolding hash_of
-hash-is name h e = sym e
-
--- the hash fits its type
-halves : (x y : ℕ) → x < 4294967296 → y < 4294967296 → x * 4294957665 + y < 2 ^ 64
-halves x y a b = omega arith
-
-pub carry-fits : (h : ℕ) → h < 2 ^ 64 → h % 4294967296 * 4294957665 + h / 4294967296 < 2 ^ 64
-carry-fits h a = halves (h % 4294967296) (h / 4294967296) (omega arith) (omega arith)
-
-pub mixed-fits : (h b : ℕ) → h < 2 ^ 64 → b < 256 → mixed h b < 2 ^ 64
-unfolding mixed
-mixed-fits h b a c = xor_lt 64 (h % 4294967296 * 4294957665 + h / 4294967296) (b * 44534042262981245) (carry-fits h a) (omega arith)
+pub ended-both : (x y : List ℕ) (n : ℕ) (s t : Bool) → n ≡ common x y → s ≡ ends_name (get_or x n 0) → t ≡ ends_name (get_or y n 0) → s && t ≡ same_bytes (name_of x) (name_of y)
+ended-both x y n s t e f g = ap₂ (λ a b. a && b) f g ∙ ap (λ n. ends_name (get_or x n 0) && ends_name (get_or y n 0)) e ∙ ended-same x y

@@ -1,7 +1,6 @@
 -- Laws of the table: the walk in its trees, and an entry more.
 use Prim.Native.Nat.{ℕ, suc, ◌+◌, ◌-◌, ◌*◌, ◌/◌, ◌%◌, ◌<◌, ◌≤◌}
 use mathlib.Core.Path.{◌≡◌, refl, sym, ap, ◌∙◌, subst}
-use mathlib.Core.Bool.{true, false}
 use mathlib.Core.List.{List}
 use native.Mathlib.Nat.{mul-le-mul_right}
 use native.Mathlib.Omega.{arith}
@@ -12,7 +11,8 @@ use borrow.Author.Tests.{eqb-true, eqb-false}
 use Rattle.lists.proofs.Tests.{split}
 use Rattle.lists.proofs.ListLaws.{zeros-at}
 use Rattle.repeats.specs.Pieces.{piece_name, starts}
-use Rattle.repeats.specs.Helpers.Table.{hash_of, root_of, way_of, Comes, here, there, Reached, Table, Free, Walked}
+use Rattle.repeats.specs.Helpers.Names.{hash_of}
+use Rattle.repeats.specs.Helpers.Table.{root_of, way_of, Comes, here, there, Reached, Trees, Free, Hit, Missed}
 
 pub split-eq : {A : Type 0} (a b : ℕ) → (a ≡ b → A) → ((a ≡ b → ⊥) → A) → A
 split-eq a b f g = split (eqb a b) (λ t. f (eqb-true a b t)) (λ t. g (eqb-false a b t))
@@ -21,7 +21,7 @@ split-eq a b f g = split (eqb a b) (λ t. f (eqb-true a b t)) (λ t. g (eqb-fals
 pub scaled : (h n : ℕ) → h % 65536 * n ≤ 65535 * n
 scaled h n = mul-le-mul_right n (omega arith)
 
-root-low : (n h : ℕ) → 0 < n → root_of n h < n
+pub root-low : (n h : ℕ) → 0 < n → root_of n h < n
 unfolding root_of
 root-low n h z = omega (arith, scaled h n)
 
@@ -53,7 +53,7 @@ pub record Walk (l links starts : List ℕ) (k at h link way : ℕ) : Type 0 whe
   pub ahead : (i : ℕ) → i < k → piece_name l (get_or starts i 0) ≡ piece_name l at → Reached links (length starts) link way i
   pub back : (s : ℕ) → Comes links (length starts) s link way → Comes links (length starts) s (root_of (length starts) h) (way_of h)
 
-module _ {l links starts : List ℕ} {k : ℕ} (t : Table l links starts k) where
+module _ {l links starts : List ℕ} {k : ℕ} (t : Trees l links starts k) where
   pub walk_none : (at h n : ℕ) → n ≡ length starts → h ≡ hash_of (piece_name l at) → Walk l links starts k at h (root_of n h) (way_of h)
   walk_none at h n q e = subst (λ (m : ℕ). Walk l links starts k at h (root_of m h) (way_of h)) (sym q) (record {
     low = omega (arith, root-low (length starts) h t.some);
@@ -62,19 +62,14 @@ module _ {l links starts : List ℕ} {k : ℕ} (t : Table l links starts k) wher
   })
 
   module _ {at h link way : ℕ} (w : Walk l links starts k at h link way) where
-    pub walk_end : h ≡ hash_of (piece_name l at) → get_or links link 0 ≡ 0 → Walked l links starts k at link false
-    walk_end e z = record {
-      found = λ e. let z : ◌≡◌ {A = ℕ} 0 1 = cc in absurd (omega arith);
-      missed = λ _ i b q. found_none (w.ahead i b q) z;
-      free = λ _. subst (λ (x : ℕ). Free links (length starts) k x link) e (record { comes = w.back link here; empty = z; low = w.low });
+    pub walk-end : h ≡ hash_of (piece_name l at) → get_or links link 0 ≡ 0 → Missed l links starts k at link
+    walk-end e z = record {
+      other = λ i b q. found_none (w.ahead i b q) z;
+      free = subst (λ (x : ℕ). Free links (length starts) k x link) e (record { comes = w.back link here; empty = z; low = w.low });
     }
 
-    pub walk-hit : {i : ℕ} → get_or links link 0 ≡ suc i → piece_name l (get_or starts i 0) ≡ piece_name l at → Walked l links starts k at link true
-    walk-hit {i} v e = record {
-      found = λ _. record { entry = i; below = t.below link i v; same = e };
-      missed = λ e. let z : ◌≡◌ {A = ℕ} 0 1 = cc in absurd (omega arith);
-      free = λ e. let z : ◌≡◌ {A = ℕ} 0 1 = cc in absurd (omega arith);
-    }
+    pub walk-hit : {i : ℕ} → get_or links link 0 ≡ suc i → piece_name l (get_or starts i 0) ≡ piece_name l at → Hit l starts k at
+    walk-hit {i} v e = record { entry = i; below = t.below link i v; same = e }
 
     pub walk-next : {i : ℕ} (n : ℕ) → n ≡ length starts → get_or links link 0 ≡ suc i
         → (piece_name l (get_or starts i 0) ≡ piece_name l at → ⊥) → Walk l links starts k at h (n + 2 * i + way % 2) (way / 2)
@@ -96,7 +91,7 @@ found-set : {links : List ℕ} {n at way i : ℕ} (e v : ℕ) → get_or links e
 found-set {links} e v z f = record { link = f.link; comes = comes-set e v z f.comes; is = other links e f.link v z f.is }
 
 -- an entry more
-module _ {l links starts : List ℕ} {k link : ℕ} (at : ℕ) (t : Table l links starts k) (r : k < length starts) (o : at < length l)
+module _ {l links starts : List ℕ} {k link : ℕ} (at : ℕ) (t : Trees l links starts k) (r : k < length starts) (o : at < length l)
     (f : Free links (length starts) k (hash_of (piece_name l at)) link) where
   pub link-in : link < length links
   link-in = omega (arith, f.low, t.long)
@@ -114,7 +109,7 @@ module _ {l links starts : List ℕ} {k link : ℕ} (at : ℕ) (t : Table l link
       (λ q. rw (new-start i q) (record { link = link; comes = comes-set link (k + 1) f.empty f.comes; is = omega (arith, new-link link refl) }))
       (λ q. rw (get_or-set_other starts k i at 0 q) (found-set link (k + 1) f.empty (t.cover i (omega arith))))
 
-  pub inserted : Table l (set links link (k + 1)) (set starts k at) (k + 1)
+  pub inserted : Trees l (set links link (k + 1)) (set starts k at) (k + 1)
   inserted = record {
     some = omega (arith, length-set starts k at);
     small = omega (arith, length-set starts k at, t.small);
@@ -132,14 +127,14 @@ module _ {l links starts : List ℕ} {k link : ℕ} (at : ℕ) (t : Table l link
     cover = λ i h. rw (length-set starts k at) (covered i h);
   }
 
-pub new-table : (l : List ℕ) (m : ℕ) (starts : List ℕ) → m ≡ 3 * length starts → 0 < length starts → length starts < 65536 → Table l (replicate m 0) starts 0
-new-table l m starts e p q = record {
-  some = p;
-  small = q;
-  long = omega (arith, length-replicate {A = ℕ} m 0);
+pub new-trees : (l links starts : List ℕ) (n : ℕ) → links ≡ replicate (n + 2 * n) 0 → length starts ≡ n → 0 < n → n < 65536 → Trees l links starts 0
+new-trees l links starts n e s p q = rw e (record {
+  some = omega arith;
+  small = omega arith;
+  long = omega (arith, length-replicate {A = ℕ} (n + 2 * n) 0);
   room = omega arith;
   inside = λ i h. absurd (omega arith);
-  below = λ a j v. absurd (omega (arith, zeros-at m a));
-  onward = λ a j v. absurd (omega (arith, zeros-at m a));
+  below = λ a j v. absurd (omega (arith, zeros-at (n + 2 * n) a));
+  onward = λ a j v. absurd (omega (arith, zeros-at (n + 2 * n) a));
   cover = λ i h. absurd (omega arith);
-}
+})

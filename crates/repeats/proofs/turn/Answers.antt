@@ -1,8 +1,15 @@
--- `repeats::turn` meets its contract: a block is gathered, and the later pieces looked up in it.
-use mathlib.Core.Path.{subst}
-use Rattle.repeats.specs.Helpers.Table.{Gathered}
-use Rattle.repeats.proofs.BlockLaws.{turn-hit}
+-- `repeats::turn` meets its contract: a new table has gathered nothing.
+use Rattle.std.proofs.Common.{◌∙◌, replicate}
+use lib.ListN.{length-replicate}
+use Rattle.repeats.specs.declared.Entry.{Entry}
+use Rattle.repeats.proofs.LinkLaws.{new, links-new, length-starts}
+use Rattle.repeats.proofs.TableLaws.{new-trees}
+use Rattle.repeats.proofs.BlockLaws.{new-block}
 use Rattle.repeats.proofs.turn.Goals as goal
 
-pub returns-then-f : goal.returns-then-f
-returns-then-f c = turn-hit (subst (Gathered _ _ _ _ _ _ _) c.if-f.true c.gather-f.ensures)
+pub gather-gathered-requires : goal.gather-gathered-requires
+gather-gathered-requires g c =
+    let n = g.row.N in
+    let o = c.requires.0 in
+    let e = length-starts c.args.from (replicate n new) ∙ length-replicate {A = Entry} n new in
+    (new-block (new-trees c.args.pairs.now _ _ n (links-new n) e c.requires.1 c.requires.2) o, o.below)

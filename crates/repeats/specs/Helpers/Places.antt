@@ -1,17 +1,11 @@
 -- Pieces by their offsets, for the contracts of the private functions.
-use Rattle.std.specs.Prelude.{ℕ, ◌+◌, ◌-◌, ◌<◌, ◌≤◌, ◌≡◌, List, [], ◌∷◌, length, get_or}
+use Rattle.std.specs.Prelude.{ℕ, ◌-◌, ◌<◌, ◌≤◌, ◌≡◌, List, length, get_or}
 use Rattle.repeats.specs.Pieces.{piece_name}
 
 -- a piece begins at s
 pub record Start (l : List ℕ) (s : ℕ) : Type 0 where
   pub inside : s < length l
   pub after : 0 < s → get_or l (s - 1) 0 ≡ 0
-
--- b is the byte of a name at `at`, or 0 where the name has ended
-pub record PieceByte (l : List ℕ) (at b : ℕ) : Type 0 where
-  pub ended : b ≡ 0 → piece_name l at ≡ []
-  pub goes : 0 < b → piece_name l at ≡ b ∷ piece_name l (at + 1)
-  pub within : 0 < b → at < length l
 
 -- r is the next start after at, or the end
 pub record Next (l : List ℕ) (at r : ℕ) : Type 0 where
@@ -36,3 +30,10 @@ pub record Early (l : List ℕ) (h : ℕ) : Type 0 where
 pub record Best (l : List ℕ) (best : ℕ) : Type 0 where
   pub inside : best ≤ length l
   pub hit : best < length l → Early l best
+
+-- pieces are left to be told apart: one begins at `from`, and those before it from each other and from the later ones up to best
+pub record Open (l : List ℕ) (from best : ℕ) : Type 0 where
+  pub distinct : Distinct l from best
+  pub better : Best l best
+  pub below : from < best
+  pub begins : Start l from

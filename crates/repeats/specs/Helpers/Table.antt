@@ -1,26 +1,50 @@
 -- The table of a block of pieces, for the contracts of the private functions: digital trees of entries, by the bits of the names' hashes.
-use Rattle.std.specs.Prelude.{ℕ, suc, ◌+◌, ◌*◌, ◌/◌, ◌%◌, ◌<◌, ◌≤◌, ◌≡◌, Bool, true, false, List, [], ◌∷◌, length, get_or}
-use Rattle.std.specs.Int.Bits.{bit_xor}
+use Rattle.std.specs.Prelude.{ℕ, suc, ◌+◌, ◌*◌, ◌/◌, ◌%◌, ◌<◌, ◌≤◌, ◌≡◌, List, [], ◌∷◌, ◌++◌, length, get_or}
+use Rattle.repeats.specs.declared.Entry.{Entry}
+use Rattle.repeats.specs.declared.Link.{Link}
+use Rattle.repeats.specs.declared.Table.{Table}
+use Rattle.repeats.specs.declared.Link.TheVariants.{Root, Child}
 use Rattle.repeats.specs.Pieces.{piece_name}
-use Rattle.repeats.specs.Helpers.Places.{Start, Best, Distinct, Early}
+use Rattle.repeats.specs.Helpers.Names.{hash_of}
+use Rattle.repeats.specs.Helpers.Places.{Start, Best, Distinct}
 
--- a byte more in a hash: the two halves of the hash by multiply with carry, and the byte spread over them by exclusive or
-unfoldable pub mixed : ℕ → ℕ → ℕ
-mixed h b = bit_xor (h % 4294967296 * 4294957665 + h / 4294967296) (b * 44534042262981245)
+-- the links of the entries: two for each
+unfoldable pub children_of : List Entry → List ℕ
+children_of [] = []
+children_of (e ∷ es) = get_or e.children 0 0 ∷ get_or e.children 1 0 ∷ children_of es
 
--- the hash of a name, h for the bytes before
-unfoldable pub hash_from : ℕ → List ℕ → ℕ
-hash_from h [] = h
-hash_from h (b ∷ bs) = hash_from (mixed h b) bs
+-- where a link stands among the links of n trees and of their entries
+unfoldable pub link_place : ℕ → Link → ℕ
+link_place n (Root tree) = tree
+link_place n (Child entry side) = n + 2 * entry + side
 
--- the hash of a name
-unfoldable pub hash_of : List ℕ → ℕ
-hash_of name = hash_from 11400714819323198485 name
+-- the link is one of n trees or of k entries
+unfoldable pub InTable : ℕ → ℕ → Link → Type 0
+InTable n k (Root tree) = tree < n
+InTable n k (Child entry side) = (entry < k) × (side < 2)
 
--- starts that are held as distances from `from`
-unfoldable pub placed : ℕ → List ℕ → List ℕ
-placed from [] = []
-placed from (d ∷ ds) = (from + d) ∷ placed from ds
+-- where the pieces of entries begin
+unfoldable pub places_of : ℕ → List Entry → List ℕ
+places_of from [] = []
+places_of from (e ∷ es) = (from + e.far) ∷ places_of from es
+
+-- the links of a table: first the roots of its trees, then those of its entries
+abbrev pub links_of : Table → List ℕ
+links_of t = t.roots.now ++ children_of t.entries.now
+
+-- where the pieces of a table begin
+abbrev pub starts_of : Table → List ℕ
+starts_of t = places_of t.from t.entries.now
+
+-- where a link stands among the links of its table, and what stands there
+abbrev pub place : Table → Link → ℕ
+place t link = link_place (length t.roots.now) link
+
+abbrev pub above : Table → Link → ℕ
+above t link = get_or (links_of t) (place t link) 0
+
+abbrev pub HasLink : Table → Link → Type 0
+HasLink t link = InTable (length t.roots.now) (length t.entries.now) link
 
 -- the tree of a hash, of n trees
 unfoldable pub root_of : ℕ → ℕ → ℕ
@@ -42,8 +66,8 @@ pub record Reached (links : List ℕ) (n at way i : ℕ) : Type 0 where
   pub comes : Comes links n link at way
   pub is : get_or links link 0 ≡ suc i
 
--- the table has k entries, and the walk by its name's hash finds each
-pub record Table (l links starts : List ℕ) (k : ℕ) : Type 0 where
+-- the trees have k entries, and the walk by its name's hash finds each
+pub record Trees (l links starts : List ℕ) (k : ℕ) : Type 0 where
   pub some : 0 < length starts
   pub small : length starts < 65536
   pub long : length links ≡ 3 * length starts
@@ -67,11 +91,10 @@ pub record Free (links : List ℕ) (n k h link : ℕ) : Type 0 where
   pub empty : get_or links link 0 ≡ 0
   pub low : link < n + 2 * k
 
--- the walk to the name at `at` finds it, or ends at this link
-pub record Walked (l links starts : List ℕ) (k at link : ℕ) (hit : Bool) : Type 0 where
-  pub found : hit ≡ true → Hit l starts k at
-  pub missed : hit ≡ false → (i : ℕ) → i < k → piece_name l (get_or starts i 0) ≡ piece_name l at → ⊥
-  pub free : hit ≡ false → Free links (length starts) k (hash_of (piece_name l at)) link
+-- no entry has the name that stands at `at`, and the walk to it ends at this empty link
+pub record Missed (l links starts : List ℕ) (k at link : ℕ) : Type 0 where
+  pub other : (i : ℕ) → i < k → piece_name l (get_or starts i 0) ≡ piece_name l at → ⊥
+  pub free : Free links (length starts) k (hash_of (piece_name l at)) link
 
 -- the entry that holds a start
 pub record Slot (starts : List ℕ) (k p : ℕ) : Type 0 where
@@ -88,7 +111,7 @@ pub record Filled (l starts : List ℕ) (k from at : ℕ) : Type 0 where
 
 -- a block from `from` is gathered up to `at`
 pub record Block (l links starts : List ℕ) (k from at best : ℕ) : Type 0 where
-  pub table : Table l links starts k
+  pub trees : Trees l links starts k
   pub holds : Filled l starts k from at
   pub from_low : from ≤ at
   pub at_high : at ≤ best
@@ -96,15 +119,31 @@ pub record Block (l links starts : List ℕ) (k from at best : ℕ) : Type 0 whe
   pub begins : at < best → Start l at
   pub apart : Distinct l at at
 
--- what a turn leaves: where the next block begins, and the new best
-pub record Turn (l : List ℕ) (from best mid new : ℕ) : Type 0 where
-  pub distinct : Distinct l mid new
-  pub better : Best l new
-  pub further : from < mid
-  pub begins : mid < new → Start l mid
-
--- what gathering a block leaves
-pub record Gathered (l links starts : List ℕ) (k from at best : ℕ) (hit : Bool) : Type 0 where
+-- a block from `from` is gathered up to `at`, and the pieces before best are told apart from those before the block
+pub record Gathered (l links starts : List ℕ) (k from at best : ℕ) : Type 0 where
   pub block : Block l links starts k from at best
-  pub further : from < at
-  pub early : hit ≡ true → Early l at
+  pub distinct : Distinct l from best
+  pub better : Best l best
+
+-- what a turn leaves: where the next block begins, and the new best
+pub record Turn (l : List ℕ) (from mid best : ℕ) : Type 0 where
+  pub distinct : Distinct l mid best
+  pub better : Best l best
+  pub further : from < mid
+  pub begins : mid < best → Start l mid
+
+-- the same of the struct
+module _ (t : Table) where
+  abbrev pub HasTrees : Type 0
+  HasTrees = Trees t.pairs.now (links_of t) (starts_of t) t.count
+
+  -- an entry has the name that stands at `at`
+  abbrev pub Finds : ℕ → Type 0
+  Finds at = Hit t.pairs.now (starts_of t) t.count at
+
+  -- none has it, and the walk to it ends at this empty link
+  abbrev pub Misses : ℕ → Link → Type 0
+  Misses at link = HasLink t link × Missed t.pairs.now (links_of t) (starts_of t) t.count at (place t link)
+
+  abbrev pub HasGathered : ℕ → ℕ → Type 0
+  HasGathered at best = Gathered t.pairs.now (links_of t) (starts_of t) t.count t.from at best
