@@ -12,12 +12,11 @@ use borrow.Author.Tests.{eq-eqb, ne_eqb, eqb-true, eqb-false, lt-ltb, le-ltb, lt
 use Rattle.lists.proofs.Tests.{split, clash}
 use Rattle.lists.proofs.ListLaws.{drop-next}
 use Rattle.lists.proofs.ByteLaws.{every-before}
-use Rattle.names.specs.declared.NameCheck.TheVariants.{Good, Wrong}
-use Rattle.names.specs.Name.{name_byte, name_check}
+use Rattle.names.specs.Name.{name_byte, good, wrong, name_check}
 use Rattle.names.specs.Rules.{NameByte, empty, byte}
 use Rattle.names.specs.Helpers.{allowed_ahead, check_by_allowed}
 use Rattle.names.proofs.Marks.{marks, marked}
-use Rattle.names.proofs.NameLaws.{name-byte-exactly, check-good-exactly, check-wrong-exactly}
+use Rattle.names.proofs.NameLaws.{same_at, name-byte-exactly, check-good-exactly, check-wrong-exactly}
 
 pub ahead_none : allowed_ahead [] ≡ 0
 unfolding allowed_ahead
@@ -94,16 +93,16 @@ module _ (name : List ℕ) (n : ℕ) (e : n ≡ allowed_ahead name) where
   there : n < length name → ¬ (NameByte (get_or name n 0))
   there l r = clash (cc ((name-byte-exactly (get_or name n 0)).1 r, ap (λ (m : ℕ). name_byte (get_or name m 0)) e, ahead-there name (omega arith)))
 
-  check-31 : 31 < n → Wrong 31 ≡ name_check name
+  check-31 : 31 < n → wrong 31 ≡ name_check name
   check-31 h = sym ((check-wrong-exactly name 31).1 (byte (omega (arith, ahead-short name)) (omega arith) (λ k l. before k (omega arith)) (inr refl)))
 
-  check-there : n ≤ 31 → n < length name → Wrong n ≡ name_check name
+  check-there : n ≤ 31 → n < length name → wrong n ≡ name_check name
   check-there h l = sym ((check-wrong-exactly name n).1 (byte l h before (inl (there l))))
 
-  check-empty : length name ≤ n → n ≡ 0 → Wrong 0 ≡ name_check name
+  check-empty : length name ≤ n → n ≡ 0 → wrong 0 ≡ name_check name
   check-empty l z = sym ((check-wrong-exactly name 0).1 (empty (none name (omega arith)) refl))
 
-  check-kept : n ≤ 31 → length name ≤ n → n ≢ 0 → Good ≡ name_check name
+  check-kept : n ≤ 31 → length name ≤ n → n ≢ 0 → good ≡ name_check name
   check-kept h l z =
       let all = every-before NameByte name (length name) (omega arith) (λ k q. before k (omega arith)) in
       sym ((check-good-exactly name).1
@@ -112,20 +111,20 @@ module _ (name : List ℕ) (n : ℕ) (e : n ≡ allowed_ahead name) where
 -- ---- the check by the allowed bytes at a name's start
 
 module _ (n : ℕ) (whole : Bool) where
-  pub allowed-long : 31 < n → Wrong 31 ≡ check_by_allowed n whole
+  pub allowed-long : 31 < n → wrong 31 ≡ check_by_allowed n whole
   unfolding check_by_allowed
   allowed-long h = rw (lt-ltb 31 n h)
 
   module _ (h : n ≤ 31) where
-    pub allowed-none : n ≡ 0 → Wrong 0 ≡ check_by_allowed n whole
+    pub allowed-none : n ≡ 0 → wrong 0 ≡ check_by_allowed n whole
     unfolding check_by_allowed
     allowed-none z = rw (le-ltb 31 n h, eq-eqb n 0 z)
 
-    pub allowed-whole : n ≢ 0 → whole ≡ true → Good ≡ check_by_allowed n whole
+    pub allowed-whole : n ≢ 0 → whole ≡ true → good ≡ check_by_allowed n whole
     unfolding check_by_allowed
     allowed-whole z t = rw (le-ltb 31 n h, ne_eqb n 0 z, t)
 
-    pub allowed-part : n ≢ 0 → whole ≡ false → Wrong n ≡ check_by_allowed n whole
+    pub allowed-part : n ≢ 0 → whole ≡ false → wrong n ≡ check_by_allowed n whole
     unfolding check_by_allowed
     allowed-part z t = rw (le-ltb 31 n h, ne_eqb n 0 z, t)
 
@@ -138,11 +137,11 @@ check-by-allowed name n whole e f g =
     (λ t. let h = ltb-false 31 n t in
     split (eqb n 0) (λ u. sym (allowed-none n whole h (eqb-true n 0 u)) ∙ nothing h (eqb-true n 0 u)) (λ u. some h (eqb-false n 0 u)))
   where
-    nothing : n ≤ 31 → n ≡ 0 → Wrong 0 ≡ name_check name
+    nothing : n ≤ 31 → n ≡ 0 → wrong 0 ≡ name_check name
     nothing h z =
         split whole
         (λ t. check-empty name n e (f t) z)
-        (λ t. ap Wrong (sym z) ∙ check-there name n e h (g t))
+        (λ t. ap wrong (sym z) ∙ check-there name n e h (g t))
 
     some : n ≤ 31 → n ≢ 0 → check_by_allowed n whole ≡ name_check name
     some h z =
@@ -155,19 +154,19 @@ pub check-whole : (name : List ℕ) (n : ℕ) → n ≡ 0 + allowed_ahead name �
 check-whole name n e = check-by-allowed name n (leb (length name) n) (omega arith) (leb-true (length name) n) (leb-false (length name) n)
 
 -- only a name that has no other byte is good
-pub allowed-good : (n : ℕ) (whole : Bool) → Good ≡ check_by_allowed n whole → whole ≡ true
+pub allowed-good : (n : ℕ) (whole : Bool) → good ≡ check_by_allowed n whole → whole ≡ true
 unfolding check_by_allowed
 allowed-good n true e = refl
 allowed-good n false e = split (ltb 31 n) (λ t. clash (cc)) (λ t. split (eqb n 0) (λ u. clash (cc)) (λ u. clash (cc)))
 
 -- an index that is answered is that of an allowed byte or of the one after them
-pub allowed-index : (n : ℕ) (whole : Bool) (at : ℕ) → Wrong at ≡ check_by_allowed n whole → at ≤ n
+pub allowed-index : (n : ℕ) (whole : Bool) (at : ℕ) → wrong at ≡ check_by_allowed n whole → at ≤ n
 allowed-index n whole at e =
     split (ltb 31 n)
-    (λ t. let q = e ∙ sym (allowed-long n whole (ltb-true 31 n t)) in let p : at ≡ 31 = cc in omega (arith, ltb-true 31 n t))
+    (λ t. let q = e ∙ sym (allowed-long n whole (ltb-true 31 n t)) in let p : at ≡ 31 = same_at q in omega (arith, ltb-true 31 n t))
     (λ t. let h = ltb-false 31 n t in
     split (eqb n 0)
-    (λ u. let q = e ∙ sym (allowed-none n whole h (eqb-true n 0 u)) in let p : at ≡ 0 = cc in omega arith)
+    (λ u. let q = e ∙ sym (allowed-none n whole h (eqb-true n 0 u)) in let p : at ≡ 0 = same_at q in omega arith)
     (λ u. split whole
     (λ v. let q = e ∙ sym (allowed-whole n whole h (eqb-false n 0 u) v) in clash (cc))
-    (λ v. let q = e ∙ sym (allowed-part n whole h (eqb-false n 0 u) v) in let p : at ≡ n = cc in omega arith)))
+    (λ v. let q = e ∙ sym (allowed-part n whole h (eqb-false n 0 u) v) in let p : at ≡ n = same_at q in omega arith)))

@@ -5,13 +5,11 @@ ghost use Rattle.std.specs.Prelude.{◌≡◌, ◌+◌, ◌<◌, drop};
 ghost use Rattle.names.specs.Name.{name_byte, name_check};
 ghost use Rattle.names.specs.Helpers.{allowed_ahead, check_by_allowed};
 
-// What the check of a name finds.
+// Where a name breaks the rule first.
 #[derive(Clone, Copy)]
-pub enum NameCheck {
-    // The name keeps the rule.
-    Good,
+pub struct NameFault {
     // The index of the first byte that is not allowed, or of the 32nd byte; 0 for an empty name.
-    Wrong { at: usize },
+    pub at: usize,
 }
 
 // A mark for each byte: 1 where a name may hold it.
@@ -70,23 +68,23 @@ pub fn name_end(s: &[u8], from: usize) -> usize
 }
 
 // The check of a name by the allowed bytes at its start; `whole`: it has no other byte.
-pub fn check_by_allowed(allowed: usize, whole: bool) -> NameCheck
+pub fn check_by_allowed(allowed: usize, whole: bool) -> Result<(), NameFault>
     ensures { result ≡ check_by_allowed allowed whole }
 {
     if 31 < allowed {
-        return NameCheck::Wrong { at: 31 };
+        return Err(NameFault { at: 31 });
     }
     if allowed == 0 {
-        return NameCheck::Wrong { at: 0 };
+        return Err(NameFault { at: 0 });
     }
     if whole {
-        return NameCheck::Good;
+        return Ok(());
     }
-    NameCheck::Wrong { at: allowed }
+    Err(NameFault { at: allowed })
 }
 
 // Whether a name keeps the rule, and if not, where it breaks it first.
-pub fn check(name: &[u8]) -> NameCheck
+pub fn check(name: &[u8]) -> Result<(), NameFault>
     ensures { result ≡ name_check name.now }
 {
     let end = name_end(name, 0);
