@@ -129,6 +129,10 @@ module _ (name : List ℕ) (action : Action) (area : List ℕ) where
       let k = named-pairs area name s e in
       call-parsed (named name action) area (check-named name action ∙ k.good-name) k.scanned.pairs k.scanned.is
 
+-- a refused edit leaves the area
+pub edit-refused : {o : Outcome} {k : Error} (call : Call) {area : List ℕ} → o ≡ refuse k call area → (refused k ≡ o.reply) × (area ≡ o.area)
+edit-refused call f = (ap (λ (o : Outcome). o.reply) (sym f), ap (λ (o : Outcome). o.area) (sym f))
+
 -- A SET BY THE PAIRS THAT IT MAKES: where they lack room it is refused and the area stays
 pub set-makes : (name value : List ℕ) (ps qs : List Pair) (area : List ℕ) → set_pair name value ps ≡ qs
     → call_pairs (set name value) ps area
