@@ -1,21 +1,22 @@
 -- Laws of `allowed_ahead`: the bytes before the first that a name may not hold, and that byte; the loop that looks for it; the check by it.
-use Prim.Native.Nat.{ℕ, zero, suc, ◌+◌, ◌<◌, ◌≤◌}
+use Prim.Native.Nat.{ℕ, suc, ◌+◌, ◌<◌, ◌≤◌}
 use mathlib.Core.Path.{◌≡◌, refl, sym, ap, ◌∙◌}
-use mathlib.Core.Bool.{Bool, true, false}
+use mathlib.Core.Bool.{Bool, true, false, not, cond}
 use mathlib.Core.List.{List, [], ◌∷◌}
 use mathlib.Core.Logic.{◌≢◌, inl, inr}
 use native.Mathlib.Omega.{arith}
 use lib.Dec.{leb, ltb, eqb}
-use lib.ListN.{length, get_or, drop, drop_of_length-le}
+use Rattle.std.specs.Prelude.{position, unwrap_or}
+use Rattle.std.specs.List.{position_or_len}
+use Rattle.std.proofs.lemmas.List.Sums.{prefix_len-le-length, fails_before_first, passes_at_first}
+use lib.ListN.{length, get_or}
 use lib.Seq.{take_all}
 use borrow.Author.Tests.{eq-eqb, ne_eqb, eqb-true, eqb-false, lt-ltb, le-ltb, ltb-true, ltb-false, leb-true, leb-false}
 use Rattle.lists.proofs.Tests.{split, clash}
-use Rattle.lists.proofs.ListLaws.{drop-next}
 use Rattle.lists.proofs.ByteLaws.{every-before}
 use Rattle.names.specs.Name.{name_byte, good, wrong, name_check}
 use Rattle.names.specs.Rules.{NameByte, empty, byte}
 use Rattle.names.specs.Helpers.{allowed_ahead, check_by_allowed}
-use Rattle.names.proofs.Marks.{marks, marked}
 use Rattle.names.proofs.NameLaws.{same_at, name-byte-exactly, check-good-exactly, check-wrong-exactly}
 
 pub ahead_none : allowed_ahead [] ≡ 0
@@ -24,61 +25,42 @@ ahead_none = refl
 
 pub ahead-here : (b : ℕ) (bs : List ℕ) → name_byte b ≡ false → allowed_ahead (b ∷ bs) ≡ 0
 unfolding allowed_ahead
-ahead-here b bs e = rw (e, allowed_ahead)
+ahead-here b bs e = ap (λ (t : Bool). cond (not (not t)) (1 + allowed_ahead bs) 0) e
 
 pub ahead-next : (b : ℕ) (bs : List ℕ) → name_byte b ≡ true → allowed_ahead (b ∷ bs) ≡ suc (allowed_ahead bs)
 unfolding allowed_ahead
-ahead-next b bs e = rw (e, allowed_ahead)
+ahead-next b bs e =
+    let g : allowed_ahead (b ∷ bs) ≡ 1 + allowed_ahead bs = ap (λ (t : Bool). cond (not (not t)) (1 + allowed_ahead bs) 0) e in
+    omega (arith, g)
 
 pub ahead-short : (l : List ℕ) → allowed_ahead l ≤ length l
-ahead-short [] = omega (arith, ahead_none)
-ahead-short (b ∷ bs) =
-    split (name_byte b) (λ t. omega (arith, ahead-next b bs t, ahead-short bs)) (λ t. omega (arith, ahead-here b bs t))
+unfolding allowed_ahead
+ahead-short l = prefix_len-le-length _ l
+
+not_true : (t : Bool) → not t ≡ false → t ≡ true
+not_true true e = refl
+not_true false e = cc
+
+not_false : (t : Bool) → not t ≡ true → t ≡ false
+not_false true e = cc
+not_false false e = refl
 
 -- the bytes before it are allowed
 pub ahead_before : (l : List ℕ) (k : ℕ) → k < allowed_ahead l → name_byte (get_or l k 0) ≡ true
-ahead_before [] k h = absurd (omega (arith, ahead_none))
-ahead_before (b ∷ bs) zero h = split (name_byte b) (λ t. t) (λ t. absurd (omega (arith, ahead-here b bs t)))
-ahead_before (b ∷ bs) (suc k) h =
-    split (name_byte b)
-    (λ t. ahead_before bs k (omega (arith, ahead-next b bs t)))
-    (λ t. absurd (omega (arith, ahead-here b bs t)))
+unfolding allowed_ahead
+ahead_before l k h = not_true _ (fails_before_first (λ b. not (name_byte b)) l k 0 h)
 
 -- the byte there is not
 pub ahead-there : (l : List ℕ) → allowed_ahead l < length l → name_byte (get_or l (allowed_ahead l) 0) ≡ false
-ahead-there [] h = absurd (omega arith)
-ahead-there (b ∷ bs) h =
-    split (name_byte b)
-    (λ t. rw (ahead-next b bs t) (ahead-there bs (omega (arith, ahead-next b bs t))))
-    (λ t. rw (ahead-here b bs t) t)
+unfolding allowed_ahead
+ahead-there l h = not_false _ (passes_at_first (λ b. not (name_byte b)) l 0 h)
 
--- ---- the turns of the loop
-
--- what is left of the search, with a copy of the table
-pub record Seeking (s : List ℕ) (from : ℕ) (table : List ℕ) (i : ℕ) : Type 0 where
-  pub left : from + allowed_ahead (drop from s) ≡ i + allowed_ahead (drop i s)
-  pub copied : table ≡ marks
-
-module _ {s : List ℕ} {from : ℕ} {table : List ℕ} {i : ℕ} (k : Seeking s from table i) where
-  rule : (b : ℕ) → b < 256 → eqb (get_or table b 0) 1 ≡ name_byte b
-  rule b h = ap (λ (l : List ℕ). eqb (get_or l b 0) 1) k.copied ∙ marked b h
-
-  module _ (h : i < length s) (b : ℕ) (eb : b ≡ get_or s i 0) (hb : b < 256) where
-    pub seek-ends : (get_or table b 0 ≡ 1 → ⊥) → i ≡ from + allowed_ahead (drop from s)
-    seek-ends n =
-        let f : name_byte (get_or s i 0) ≡ false = ap name_byte (sym eb) ∙ sym (rule b hb) ∙ ne_eqb (get_or table b 0) 1 n in
-        omega (arith, k.left, ap allowed_ahead (drop-next s i h) ∙ ahead-here (get_or s i 0) (drop (i + 1) s) f)
-
-    pub seek-next : get_or table b 0 ≡ 1 → Seeking s from table (i + 1)
-    seek-next n =
-        let f : name_byte (get_or s i 0) ≡ true = ap name_byte (sym eb) ∙ sym (rule b hb) ∙ eq-eqb (get_or table b 0) 1 n in
-        record {
-          left = omega (arith, k.left, ap allowed_ahead (drop-next s i h) ∙ ahead-next (get_or s i 0) (drop (i + 1) s) f);
-          copied = k.copied;
-        }
-
-  pub seek-last : length s ≤ i → i ≡ from + allowed_ahead (drop from s)
-  seek-last h = omega (arith, k.left, ap allowed_ahead (drop_of_length-le s h) ∙ ahead_none)
+-- the index of the first byte that is not allowed, or the length where there is none
+pub ahead_found : (l : List ℕ) → unwrap_or (position (λ b. not (name_byte b)) l) (length l) ≡ allowed_ahead l
+unfolding allowed_ahead
+ahead_found l =
+    let n = position_or_len (λ b. not (name_byte b)) l in
+    split (ltb n (length l)) (λ t. rw t) (λ t. rw t (omega (arith, ltb-false n (length l) t, ahead-short l)))
 
 -- ---- the check of a name, by the relations
 

@@ -1,7 +1,7 @@
 // The rule for a variable's name: 1 to 31 bytes, each one marked in a table.
 #![tactic(auto)]
 
-ghost use Rattle.std.specs.Prelude.{◌≡◌, ◌+◌, ◌<◌, drop};
+ghost use Rattle.std.specs.Prelude.{◌≡◌, ◌+◌, not, drop, position};
 ghost use Rattle.names.specs.Name.{name_byte, name_check};
 ghost use Rattle.names.specs.Helpers.{allowed_ahead, check_by_allowed};
 
@@ -13,7 +13,7 @@ pub struct NameFault {
 }
 
 // A mark for each byte: 1 where a name may hold it.
-const MARKS: [u8; 256] = [
+static MARKS: [u8; 256] = [
     0, // 0x00
     0, 0, 0, 0, 0, 0, 0, 0, 0, 0, 0, 0, 0, 0, 0, 0, 0, 0, 0, 0, 0, 0, 0, 0, 0, 0, 0, 0, 0, 0, 0, 0,
     1, // 0x21, `!`
@@ -36,35 +36,28 @@ const MARKS: [u8; 256] = [
     0, 0, 0, 0, 0, 0, 0, 0, 0, 0, 0, 0, 0, 0, 0, 0, 0, 0, 0, 0, 0, 0, 0, 0, 0, 0, 0, 0, 0, 0, 0, 0, // 0xFF
 ];
 
-// A byte as an index.
-fn wide(b: u8) -> usize
-    ensures { (result ≡ b) × (result < 256) }
-{
-    b as usize
-}
-
 // Whether a name may hold the byte.
 pub fn name_byte(b: u8) -> bool
     ensures { result ≡ name_byte b }
 {
-    let i = b as usize;
-    MARKS[i] == 1
+    MARKS[usize::from(b)] == 1
+}
+
+// The index of the first byte that a name may not hold.
+fn first_wrong(s: &[u8]) -> Option<usize>
+    ensures { result ≡ position (λ b. not (name_byte b)) s.now }
+{
+    s.iter().position(|b| !name_byte(*b))
 }
 
 // The offset of the first byte from `from` on that a name may not hold, or the end.
 pub fn name_end(s: &[u8], from: usize) -> usize
     ensures { result ≡ from + allowed_ahead (drop from s.now) }
 {
-    let marks = MARKS; // one copy of the table serves all bytes
-    let mut i = from;
-    while i < s.len() {
-        let b = wide(s[i]);
-        if marks[b] != 1 {
-            return i;
-        }
-        i += 1;
+    match s.get(from..) {
+        None => from,
+        Some(rest) => from + first_wrong(rest).unwrap_or(rest.len()),
     }
-    i
 }
 
 // The check of a name by the allowed bytes at its start; `whole`: it has no other byte.
