@@ -8,8 +8,6 @@ ghost use Rattle.values.specs.Value.{spelled, escaped, mark, run_bytes, encode, 
 ghost use Rattle.values.specs.Helpers.{recodable, recoded, recoded_of, recoded_in};
 ghost use Rattle.encoding.specs.Helpers.{leading};
 
-use values::Written;
-
 // The end of the bytes from `from` on that are looked at one by one.
 fn near_end(from: usize, len: usize) -> usize
     requires { from ≤ len }
@@ -193,17 +191,17 @@ fn encode_to(value: &[u8], buffer: &mut [u8])
     }
 }
 
-// Writes the canonical form of a value at the start of the buffer, if there is room for all of it.
-pub fn encode(value: &[u8], buffer: &mut [u8]) -> Written
+// Writes the canonical form of a value at the start of the buffer, and answers its length; none where there is no room for all of it.
+pub fn encode(value: &[u8], buffer: &mut [u8]) -> Option<usize>
     ensures value { result ≡ written_of (encode value.now) (length buffer.old) }
     ensures buffer_after { buffer.new ≡ written_in (encode value.now) buffer.old }
 {
     let n = encoded_len(value);
     if buffer.len() < n {
-        return Written::NoRoom;
+        return None;
     }
     encode_to(value, buffer);
-    Written::Length(n)
+    Some(n)
 }
 
 // Moves the n bytes at `from` to an offset that is not after it; most stay where they are.
@@ -260,23 +258,23 @@ fn recode_to(area: &mut [u8], from: usize, to: usize, at: usize) -> usize
 }
 
 // Makes the value stored from `from` up to `to` canonical, at `at`, which is not after it; answers its new length.
-// Where the offsets are out of order or the bytes stand for no value, nothing is changed.
-pub fn recode(area: &mut [u8], from: usize, to: usize, at: usize) -> Written
+// Where the offsets are out of order or the bytes stand for no value, nothing is changed, and the answer is none.
+pub fn recode(area: &mut [u8], from: usize, to: usize, at: usize) -> Option<usize>
     ensures value { result ≡ recoded_of area.old from to at }
     ensures area_after { area.new ≡ recoded_in area.old from to at }
 {
     if from < at {
-        return Written::NoRoom;
+        return None;
     }
     if to < from {
-        return Written::NoRoom;
+        return None;
     }
     if area.len() < to {
-        return Written::NoRoom;
+        return None;
     }
     if !is_spelled(&area[from..to]) {
-        return Written::NoRoom;
+        return None;
     }
     let e = recode_to(area, from, to, at);
-    Written::Length(e - at)
+    Some(e - at)
 }

@@ -9,7 +9,7 @@ ghost use Rattle.header.specs.Header.{bytes_of, byte_at, name_at, header_at, cov
 use errors::{Error, HeaderFault};
 
 // A length in blocks, as a header holds it.
-#[derive(Clone, Copy)]
+#[derive(Clone, Copy, Default)]
 pub struct Blocks(pub u32);
 
 // A length in bytes.

@@ -8,7 +8,7 @@ use lib.ListN.{length, get_or, set, drop, replicate, length-append}
 use Rattle.lists.specs.Helpers.{until_either}
 use Rattle.lists.specs.Pasted.{pasted}
 use Rattle.lists.proofs.Grown.{Grown, grown-none, grown-as, grown-same, grown-piece, grown-byte, grown-all}
-use Rattle.values.specs.declared.Written.TheVariants.{Length, NoRoom}
+use Rattle.std.specs.Prelude.{Some, None}
 use Rattle.values.specs.Value.{run_byte, run, decode, written_of}
 use Rattle.values.specs.Helpers.{part, Passed}
 use Rattle.lists.proofs.Grown.{grown-left}
@@ -29,7 +29,7 @@ module _ {a : List ℕ} {room i n : ℕ} (s : Measured a room i n) where
   pub measured-run : i + 1 < length a → get_or a i 0 ≡ 255 → get_or a (i + 1) 0 % 128 ≤ room - n → Measured a room (i + 1 + 1) (n + get_or a (i + 1) 0 % 128)
   measured-run h e k = record { within = omega (arith, s.within); sum = omega (arith, s.sum, length_two a i h e) }
 
-  pub measured-long : i + 1 < length a → get_or a i 0 ≡ 255 → room - n < get_or a (i + 1) 0 % 128 → NoRoom ≡ written_of (decode a) room
+  pub measured-long : i + 1 < length a → get_or a i 0 ≡ 255 → room - n < get_or a (i + 1) 0 % 128 → None ≡ written_of (decode a) room
   measured-long h e k = sym (written-not (decode a) room (omega (arith, s.within, s.sum, length_two a i h e)))
 
   pub measured-stop : i < length a → length a ≤ i + 1 → get_or a i 0 ≡ 255 → Measured a room (i + 1) n
@@ -38,16 +38,16 @@ module _ {a : List ℕ} {room i n : ℕ} (s : Measured a room i n) where
   pub measured-one : i < length a → get_or a i 0 ≢ 255 → n < room → Measured a room (i + 1) (n + 1)
   measured-one h e k = record { within = omega arith; sum = omega (arith, s.sum, length-one a i h e) }
 
-  pub measured-full : i < length a → get_or a i 0 ≢ 255 → room ≤ n → NoRoom ≡ written_of (decode a) room
+  pub measured-full : i < length a → get_or a i 0 ≢ 255 → room ≤ n → None ≡ written_of (decode a) room
   measured-full h e k = sym (written-not (decode a) room (omega (arith, s.sum, length-one a i h e)))
 
   pub measured-piece : i ≤ length a → {e : ℕ} → e ≡ i + until_either 255 255 (drop i a) → e - i ≤ room - n → Measured a room e (n + (e - i))
   measured-piece h {e} q k = record { within = omega (arith, s.within); sum = omega (arith, s.sum, length-piece a i {e = e} (omega arith) (omega arith) h) }
 
-  pub measured-wide : i ≤ length a → {e : ℕ} → e ≡ i + until_either 255 255 (drop i a) → room - n < e - i → NoRoom ≡ written_of (decode a) room
+  pub measured-wide : i ≤ length a → {e : ℕ} → e ≡ i + until_either 255 255 (drop i a) → room - n < e - i → None ≡ written_of (decode a) room
   measured-wide h {e} q k = sym (written-not (decode a) room (omega (arith, s.within, s.sum, length-piece a i {e = e} (omega arith) (omega arith) h)))
 
-  pub measured-all : length a ≤ i → Length n ≡ written_of (decode a) room
+  pub measured-all : length a ≤ i → Some n ≡ written_of (decode a) room
   measured-all h = count_fits (decode a) room n (omega (arith, s.sum, ap length (decode-end a i h))) s.within
 
 -- ---- the loops that write: what the bytes from the offset f up to i stand for is in the buffer, which was d and is b, from `at` up to o

@@ -11,36 +11,36 @@ use lib.Seq.{take_all}
 use Rattle.lists.specs.Pasted.{pasted, written_in}
 use Rattle.lists.proofs.PastedLaws.{part-copied}
 use Rattle.lists.proofs.Tests.{split, clash}
-use Rattle.values.specs.declared.Written.TheVariants.{Length, NoRoom}
+use Rattle.std.specs.Prelude.{Some, None}
 use Rattle.values.specs.Value.{written_of}
 use Rattle.values.specs.Helpers.{part}
 
 module _ (l : List ℕ) (room : ℕ) where
-  pub written-fits : length l ≤ room → written_of l room ≡ Length (length l)
+  pub written-fits : length l ≤ room → written_of l room ≡ Some (length l)
   unfolding written_of
   written-fits h = rw (le-leb (length l) room h)
 
-  pub written-not : room < length l → written_of l room ≡ NoRoom
+  pub written-not : room < length l → written_of l room ≡ None
   unfolding written_of
   written-not h = rw (lt-leb (length l) room h)
 
   -- what the answers tell
-  pub length-told : (n : ℕ) → written_of l room ≡ Length n → (n ≡ length l) × (n ≤ room)
+  pub length-told : (n : ℕ) → written_of l room ≡ Some n → (n ≡ length l) × (n ≤ room)
   length-told n e =
       split (leb (length l) room)
       (λ t. let h = leb-true (length l) room t in
-      let q : Length (length l) ≡ Length n = sym (written-fits h) ∙ e in
+      let q : Some (length l) ≡ Some n = sym (written-fits h) ∙ e in
       let k : length l ≡ n = cc in
       (sym k, omega arith))
-      (λ t. let q : NoRoom ≡ Length n = sym (written-not (leb-false (length l) room t)) ∙ e in clash (cc))
+      (λ t. let q : None ≡ Some n = sym (written-not (leb-false (length l) room t)) ∙ e in clash (cc))
 
-  pub fits_told : (n : ℕ) → written_of l room ≡ Length n → length l ≤ room
+  pub fits_told : (n : ℕ) → written_of l room ≡ Some n → length l ≤ room
   fits_told n e = let t = length-told n e in omega arith
 
-  pub no-room-told : written_of l room ≡ NoRoom → room < length l
-  no-room-told e =
+  pub none-told : written_of l room ≡ None → room < length l
+  none-told e =
       split (leb (length l) room)
-      (λ t. let q : Length (length l) ≡ NoRoom = sym (written-fits (leb-true (length l) room t)) ∙ e in clash (cc))
+      (λ t. let q : Some (length l) ≡ None = sym (written-fits (leb-true (length l) room t)) ∙ e in clash (cc))
       (λ t. leb-false (length l) room t)
 
 module _ (l buffer : List ℕ) where
@@ -53,8 +53,8 @@ module _ (l buffer : List ℕ) where
   kept_in h = rw (lt-leb (length l) (length buffer) h)
 
 -- the same of a count
-pub count_fits : (l : List ℕ) (room n : ℕ) → n ≡ length l → n ≤ room → Length n ≡ written_of l room
-count_fits l room n e h = ap Length e ∙ sym (written-fits l room (omega arith))
+pub count_fits : (l : List ℕ) (room n : ℕ) → n ≡ length l → n ≤ room → Some n ≡ written_of l room
+count_fits l room n e h = ap Some e ∙ sym (written-fits l room (omega arith))
 
 -- a lent part `&mut d[a..e]` of the bytes' own length, to which they were written
 pub part-written : (d : List ℕ) (a e : ℕ) (w last : List ℕ) → a ≤ e → e ≤ length d → length w ≡ e - a

@@ -1,8 +1,6 @@
 -- For the loops: how far they go byte by byte, a part of a list, and a stored value made canonical in its place.
-use Rattle.std.specs.Prelude.{ℕ, ◌+◌, ◌-◌, ◌≡◌, Bool, ◌&&◌, cond, List, ◌++◌, length, take, drop, leb, ltb}
+use Rattle.std.specs.Prelude.{ℕ, ◌+◌, ◌-◌, ◌≡◌, Bool, ◌&&◌, cond, List, ◌++◌, length, take, drop, leb, ltb, Option, Some, None}
 use Rattle.lists.specs.Pasted.{pasted}
-use Rattle.values.specs.declared.Written.{Written}
-use Rattle.values.specs.declared.Written.TheVariants.{Length, NoRoom}
 use Rattle.values.specs.Value.{decode, spelled, encode}
 
 -- ---- the offsets up to which a loop takes bytes one by one before it looks for a long piece, in a list of `len` bytes
@@ -39,8 +37,8 @@ unfoldable pub recoded : List ℕ → ℕ → ℕ → List ℕ
 recoded area from to = encode (decode (part area from to))
 
 -- the answer: its length
-unfoldable pub recoded_of : List ℕ → ℕ → ℕ → ℕ → Written
-recoded_of area from to at = cond (recodable area from to at) (Length (length (recoded area from to))) NoRoom
+unfoldable pub recoded_of : List ℕ → ℕ → ℕ → ℕ → Option ℕ
+recoded_of area from to at = cond (recodable area from to at) (Some (length (recoded area from to))) None
 
 -- the area afterwards: the canonical form is written at `at`
 unfoldable pub recoded_in : List ℕ → ℕ → ℕ → ℕ → List ℕ

@@ -8,13 +8,6 @@ ghost use Rattle.values.specs.Value.{run_byte, decode, written_of};
 ghost use Rattle.values.specs.Helpers.{part, Passed};
 ghost use Rattle.values.specs.Helpers.{first_stop, next_stop};
 
-// Bytes written to a buffer: how many, or none for want of room.
-#[derive(Clone, Copy)]
-pub enum Written {
-    Length(usize),
-    NoRoom,
-}
-
 // The offset up to which bytes are taken one by one before a long piece is looked for: at the start at once, unless there are few bytes.
 pub fn first_stop(len: usize) -> usize
     ensures { result ≡ first_stop len }
@@ -71,7 +64,7 @@ fn copy_long(source: &[u8], from: usize, b: u8, c: u8, buffer: &mut [u8], at: us
 }
 
 // The length of the value that is stored so, if that is at most `room`.
-pub fn decoded_len(stored: &[u8], room: usize) -> Written
+pub fn decoded_len(stored: &[u8], room: usize) -> Option<usize>
     ensures { result ≡ written_of (decode stored.now) room }
 {
     let mut i = 0;
@@ -80,11 +73,11 @@ pub fn decoded_len(stored: &[u8], room: usize) -> Written
     loop {
         if stop <= i {
             if stored.len() <= i {
-                return Written::Length(n);
+                return Some(n);
             }
             let e = lists::find_either(stored, i, 255, 255);
             if room - n < e - i {
-                return Written::NoRoom;
+                return None;
             }
             n += e - i;
             i = e;
@@ -94,14 +87,14 @@ pub fn decoded_len(stored: &[u8], room: usize) -> Written
             if i < stored.len() {
                 let k = (stored[i] % 128) as usize;
                 if room - n < k {
-                    return Written::NoRoom;
+                    return None;
                 }
                 n += k;
                 i += 1;
             }
         } else {
             if room <= n {
-                return Written::NoRoom;
+                return None;
             }
             n += 1;
             i += 1;
@@ -160,16 +153,12 @@ fn decode_to(stored: &[u8], buffer: &mut [u8])
     }
 }
 
-// Writes the value that is stored so at the start of the buffer, if there is room for all of it.
-pub fn decode(stored: &[u8], buffer: &mut [u8]) -> Written
+// Writes the value that is stored so at the start of the buffer, and answers its length; none where there is no room for all of it.
+pub fn decode(stored: &[u8], buffer: &mut [u8]) -> Option<usize>
     ensures value { result ≡ written_of (decode stored.now) (length buffer.old) }
     ensures buffer_after { buffer.new ≡ written_in (decode stored.now) buffer.old }
 {
-    match decoded_len(stored, buffer.len()) {
-        Written::Length(n) => {
-            decode_to(stored, buffer);
-            Written::Length(n)
-        }
-        Written::NoRoom => Written::NoRoom,
-    }
+    let n = decoded_len(stored, buffer.len())?;
+    decode_to(stored, buffer);
+    Some(n)
 }

@@ -9,23 +9,23 @@ returns-then-n-at c =
     let a = c.args in
     sym (step_end a.image.now a.self.at c.if-n-at.true)
 
-pub overflow_add-result : goal.overflow_add-result
-overflow_add-result c =
-    let a = c.args in
-    omega (
-      arith,
-      read_fits a.image.now a.self.at c.check_at-validity.result c.check_at-validity.ensures c.in-Valid.is
-          c.length_at-blocks.result c.length_at-blocks.ensures c.bytes-bytes.result c.bytes-bytes.ensures,
-    )
-
-pub returns-in-Valid : goal.returns-in-Valid
-returns-in-Valid c =
-    let a = c.args in
-    read_next a.image.now a.self.at c.check_at-validity.result c.check_at-validity.ensures c.in-Valid.is
-    c.length_at-blocks.result c.length_at-blocks.ensures c.bytes-bytes.result c.bytes-bytes.ensures c.if-n-at.false
-    c.signature_at-signature.result c.signature_at-signature.ensures
-
 pub returns-in-Invalid : goal.returns-in-Invalid
 returns-in-Invalid c =
     let a = c.args in
-    read-broken a.image.now a.self.at c.check_at-validity.result c.check_at-validity.ensures c.if-n-at.false c.in-Invalid.e c.in-Invalid.is
+    read-broken a.image.now a.self.at c.check_at.result c.check_at.ensures c.if-n-at.false c.in-Invalid.e c.in-Invalid.is
+
+pub overflow_add-next : goal.overflow_add-next
+overflow_add-next c =
+    let a = c.args in
+    omega (
+      arith,
+      read_fits a.image.now a.self.at c.check_at.result c.check_at.ensures c.in-Valid.is
+          c.length_at-blocks.result c.length_at-blocks.ensures c.bytes-bytes.result c.bytes-bytes.ensures,
+    )
+
+pub returns : goal.returns
+returns c =
+    let a = c.args in
+    read_next a.image.now a.self.at c.check_at.result c.check_at.ensures c.in-Valid.is
+    c.length_at-blocks.result c.length_at-blocks.ensures c.bytes-bytes.result c.bytes-bytes.ensures c.if-n-at.false
+    c.signature_at-signature.result c.signature_at-signature.ensures
