@@ -278,9 +278,6 @@ module _ {d b : List ℕ} {at to : ℕ} (n : Normalizing d b at to) where
   fits : 0 + length (pairs_bytes (normalize_pairs n.passed)) ≤ length d
   fits = omega (arith, at-inside, n.written, n.order)
 
-  normalizing-long : length b ≡ length d
-  normalizing-long = ap length n.bytes ∙ length-pasted d 0 (pairs_bytes (normalize_pairs n.passed)) fits
-
   rest-now : drop at b ≡ pairs_bytes n.left ++ 0x00 ∷ n.fill
   rest-now =
       ap (drop at) n.bytes
