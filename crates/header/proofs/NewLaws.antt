@@ -39,7 +39,7 @@ module _ (signature : ℕ) (blocks : Blocks) (name : List ℕ) where
 
       whole : at + 16 ≤ len image
       whole =
-          let e : len (take 16 (drop at image)) ≡ 16 = ap len stands ∙ omega arith in
+          let e : len (take 16 (drop at image)) ≡ 16 = ap len (stands) ∙ omega arith in
           omega (arith, length-take 16 (drop at image), length-drop at image)
 
       -- each field is read as it was written
@@ -61,13 +61,12 @@ module _ (signature : ℕ) (blocks : Blocks) (name : List ℕ) where
       -- IT READS BACK
       pub new-read : header_at image at ≡ sealed signature blocks name
       unfolding header_at
-      new-read =
-          λ i. record {
-            signature = fields.signed i;
-            checksum = fields.sum_is i;
-            length = record { 0 = blocks_is i };
-            name = fields.named i;
-          }
+      new-read = λ i. record {
+        signature = fields.signed i;
+        checksum = fields.sum_is i;
+        length = record { 0 = blocks_is i };
+        name = fields.named i;
+      }
 
       -- WITH THE FIELDS that it was made of
       pub new-fields : ((header_at image at).signature ≡ signature) × ((header_at image at).length ≡ blocks) × ((header_at image at).name ≡ name)

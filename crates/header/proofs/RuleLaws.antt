@@ -16,9 +16,8 @@ use Rattle.errors.specs.declared.Error.TheVariants.{BadHeader}
 use Rattle.errors.specs.Errors.{header_code}
 use Rattle.errors.specs.declared.Answer.{Answer}
 use Rattle.std.specs.Prelude.{⊤, Ok, Err}
-use Rattle.header.specs.Header.{Validity, valid}
 use Rattle.header.specs.Checksum.{sum, sumcheck, fold}
-use Rattle.header.specs.Header.{byte_at, name_at, header_at, bytes_of, covered_bytes, first_broken, validity_of, validity_at, validity_answer}
+use Rattle.header.specs.Header.{byte_at, name_at, header_at, bytes_of, covered_bytes, first_broken, validity_of, validity_at, Validity, validity_answer}
 use Rattle.header.specs.Rules.{blocks_at, checksum_at, Sound, Breaks, two, three, four, HeaderRow, is-sound, is-two, is-three, is-four}
 use Rattle.header.proofs.SumLaws.{name-sum}
 use Rattle.header.proofs.ChecksumLaws.{closed-form, closed-zeros, sum-covered}
@@ -137,7 +136,7 @@ module _ (image : List ℕ) (at : ℕ) where
         sym (checksum-differs h.length h.checksum (sumcheck (covered_bytes h)) at (length image - at) (nonzero z) (bytes_of h.length) refl (fits z f)
         (λ e. a (sym checksum-read ∙ e ∙ sum-read)))
 
-    pub sound-valid : Sound image at → validity_at image at ≡ valid
+    pub sound-valid : Sound image at → validity_at image at ≡ Ok tt
     unfolding validity_at validity_of
     sound-valid s =
         let h = header_at image at in
@@ -146,7 +145,7 @@ module _ (image : List ℕ) (at : ℕ) where
 
     -- what the rules say of the header at an offset
     data Judged : Validity → Type 0 where
-      sound : Sound image at → Judged valid
+      sound : Sound image at → Judged (Ok tt)
       faulty : {f : HeaderFault} → Breaks image at f → Judged (Err (BadHeader f at))
 
     judged : Judged (validity_at image at)
@@ -167,10 +166,10 @@ module _ (image : List ℕ) (at : ℕ) where
             rw (sound-valid s) (sound s)
 
     -- no rule is broken exactly when the header is sound
-    pub valid-exactly : (validity_at image at ≡ valid) ↔ Sound image at
+    pub valid-exactly : (validity_at image at ≡ Ok tt) ↔ Sound image at
     valid-exactly = (go (validity_at image at) judged, sound-valid)
       where
-        go : (v : Validity) → Judged v → v ≡ valid → Sound image at
+        go : (v : Validity) → Judged v → v ≡ Ok tt → Sound image at
         go (Ok _) (sound s) e = s
         go (Err x) (faulty b) e = clash (cc)
 

@@ -15,13 +15,12 @@ use Rattle.header.specs.declared.Blocks.{Blocks}
 use Rattle.header.specs.declared.Bytes.{Bytes}
 use Rattle.header.specs.declared.Header.{Header}
 use Rattle.std.specs.Prelude.{Ok, Err}
-use Rattle.header.specs.Header.{Validity, valid}
 use Rattle.errors.specs.declared.Error.{Error}
 use Rattle.errors.specs.declared.HeaderFault.{HeaderFault}
 use Rattle.errors.specs.declared.HeaderFault.TheVariants.{ZeroLength, PastEnd, Checksum}
 use Rattle.errors.specs.declared.Error.TheVariants.{BadHeader}
 use Rattle.header.specs.Checksum.{sumcheck}
-use Rattle.header.specs.Header.{bytes_of, header_at, covered_bytes, first_broken, validity_of, validity_at}
+use Rattle.header.specs.Header.{bytes_of, header_at, covered_bytes, first_broken, Validity, validity_of, validity_at}
 use Rattle.header.proofs.ChecksumLaws.{header-nonzero}
 
 module _ (blocks : Blocks) (stored computed at room : ℕ) where
@@ -41,7 +40,7 @@ module _ (blocks : Blocks) (stored computed at room : ℕ) where
       pub checksum-differs : (stored ≡ computed → ⊥) → Err (BadHeader Checksum at) ≡ first_broken blocks stored computed at room
       checksum-differs d = rw (ne_eqb _ _ z, le-ltb _ _ fits, ne_eqb _ _ d)
 
-      pub no-rule-broken : stored ≡ computed → valid ≡ first_broken blocks stored computed at room
+      pub no-rule-broken : stored ≡ computed → Ok tt ≡ first_broken blocks stored computed at room
       no-rule-broken a = rw (ne_eqb _ _ z, le-ltb _ _ fits, eq-eqb _ _ a)
 
 -- the rules of a header, by its checksum that was computed
@@ -62,7 +61,7 @@ cut_off blocks s c t d at room h = go (ℕ_discrete blocks.0 0)
 
 -- an invalid header is refused for a fault of its own, at its own offset
 fault-by : (a b c : Bool) (at : ℕ) (e : Error)
-    → cond a (Err (BadHeader ZeroLength at)) (cond b (Err (BadHeader PastEnd at)) (cond c (Err (BadHeader Checksum at)) valid)) ≡ Err e
+    → ◌≡◌ {A = Validity} (cond a (Err (BadHeader ZeroLength at)) (cond b (Err (BadHeader PastEnd at)) (cond c (Err (BadHeader Checksum at)) (Ok tt)))) (Err e)
     → (f : HeaderFault) × (e ≡ BadHeader f at)
 fault-by true b c at e q = (ZeroLength, cc)
 fault-by false true c at e q = (PastEnd, cc)
@@ -77,13 +76,13 @@ invalid-here image at e q =
     at e q
 
 -- the first two tests of a header that breaks no rule
-valid-tests : (a b : Bool) (w x : Error) (v : Validity) → cond a (Err w) (cond b (Err x) v) ≡ valid
+valid-tests : (a b : Bool) (w x : Error) (v : Validity) → cond a (Err w) (cond b (Err x) v) ≡ Ok tt
     → (a ≡ false) × (b ≡ false)
 valid-tests true b w x v e = clash (cc)
 valid-tests false true w x v e = clash (cc)
 valid-tests false false w x v e = (refl, refl)
 
-module _ (h : Header) (at room : ℕ) (e : validity_of h at room ≡ valid) where
+module _ (h : Header) (at room : ℕ) (e : validity_of h at room ≡ Ok tt) where
   tests : (eqb h.length.0 0 ≡ false) × (ltb room (bytes_of h.length).0 ≡ false)
   unfolding validity_of
   tests = valid-tests _ _ (BadHeader ZeroLength at) (BadHeader PastEnd at) _ e
@@ -95,7 +94,7 @@ module _ (h : Header) (at room : ℕ) (e : validity_of h at room ≡ valid) wher
   fitting = ltb-false _ _ tests.1
 
 -- the same of the header at an offset of an image
-module _ (image : List ℕ) (at : ℕ) (e : validity_at image at ≡ valid) where
+module _ (image : List ℕ) (at : ℕ) (e : validity_at image at ≡ Ok tt) where
   pub valid-nonzero : (header_at image at).length.0 ≢ 0
   unfolding validity_at
   valid-nonzero = nonzero (header_at image at) at (len image - at) e
@@ -106,7 +105,7 @@ module _ (image : List ℕ) (at : ℕ) (e : validity_at image at ≡ valid) wher
 
 -- an answer after a test more behind the others, which would answer v where the computed checksum is zero
 abbrev pub zero_test : Validity → ℕ → Validity → Validity
-zero_test (Ok _) computed v = cond (eqb computed 0) v valid
+zero_test (Ok _) computed v = cond (eqb computed 0) v (Ok tt)
 zero_test (Err e) computed v = Err e
 
 -- THAT TEST CHANGES NOTHING for a header of at most 65,535 blocks, whatever it would answer

@@ -53,17 +53,13 @@ sealed signature blocks name =
       name = name;
     }
 
--- whether a length is one that a header can hold, from 1 to 65,535
+-- whether a header can hold a length: one from 1 to 65,535
 unfoldable pub fits_header : Blocks → Bool
 fits_header blocks = leb 1 blocks.0 && leb blocks.0 65535
 
--- what the rules say of a header: it breaks none, or the first that it breaks
+-- what the rules say of a header: nothing, or the first rule that it breaks
 abbrev pub Validity : Type 0
 Validity = Result ⊤ Error
-
--- it breaks no rule
-abbrev pub valid : Validity
-valid = Ok tt
 
 -- the first rule broken by a length, a stored and a computed checksum, at an offset with so many bytes of the image left
 abbrev pub first_broken : Blocks → ℕ → ℕ → ℕ → ℕ → Validity
@@ -71,7 +67,7 @@ first_broken blocks stored computed at room =
     cond (eqb blocks.0 0) (Err (BadHeader ZeroLength at))
     (cond (ltb room (bytes_of blocks).0) (Err (BadHeader PastEnd at))
     (cond (not (eqb stored computed)) (Err (BadHeader Checksum at))
-    valid))
+    (Ok tt)))
 
 -- the first rule that a header breaks, where it stands there
 unfoldable pub validity_of : Header → ℕ → ℕ → Validity
@@ -83,4 +79,4 @@ validity_at image at = validity_of (header_at image at) at (length image - at)
 
 -- the code and the offset that a caller sees of it
 abbrev pub validity_answer : Validity → Answer ⊤
-validity_answer validity = answer_of tt validity
+validity_answer checked = answer_of tt checked

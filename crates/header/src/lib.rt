@@ -4,7 +4,7 @@
 ghost use Rattle.std.specs.Prelude.{◌≡◌, ◌+◌, ◌/◌, ◌%◌, ◌≤◌, ◌<◌, length as len};
 ghost use Rattle.lists.specs.Bytes.{AllBytes};
 ghost use Rattle.header.specs.Checksum.{sum, sumcheck, fold};
-ghost use Rattle.header.specs.Header.{bytes_of, fits_header, byte_at, name_at, header_at, covered_bytes, sealed, first_broken, validity_of, validity_at};
+ghost use Rattle.header.specs.Header.{bytes_of, byte_at, name_at, header_at, covered_bytes, fits_header, sealed, first_broken, validity_of, validity_at};
 
 use errors::{Error, HeaderFault};
 
@@ -24,7 +24,7 @@ impl Blocks {
         Bytes(self.0 as usize * Header::BLOCK)
     }
 
-    // Whether a header can hold the length.
+    // Whether a header can hold the length: its two bytes, and no length of zero.
     #[tactic(auto, unfolding(crate::specs::Header::fits_header))]
     pub fn fits_header(self) -> bool
         ensures { result ≡ fits_header self }
@@ -62,8 +62,10 @@ impl Header {
             length,
             name,
         };
-        let checksum = blank.computed_checksum();
-        Header { checksum, ..blank }
+        Header {
+            checksum: blank.computed_checksum(),
+            ..blank
+        }
     }
 
     // The header that stands at an offset of an image; bytes past the image's end count as 0.
