@@ -13,7 +13,7 @@ use Rattle.lists.proofs.Tests.{split, clash}
 use Rattle.lists.proofs.ByteLaws.{every_drop, every_take}
 use Rattle.lists.proofs.PastedLaws.{length-pasted, take-pasted-before, drop-pasted-after, drop-pasted-at, bytes-pasted}
 use Rattle.header.specs.declared.Blocks.{Blocks}
-use Rattle.header.specs.Header.{Validity, valid}
+use Rattle.header.specs.Header.{Validity}
 use Rattle.header.specs.Header.{header_at, bytes_of, validity_at}
 use Rattle.header.specs.Rules.{blocks_at}
 use Rattle.header.proofs.RuleLaws.{blocks-read}
@@ -39,7 +39,7 @@ module _ (I J : List ℕ) (l : length I ≡ length J) where
     where
       by-validity : (v : Validity) → validity_at I a ≡ v → step_at I a ≡ step_at J a
       by-validity (Ok _) e =
-          let f : validity_at J a ≡ valid = sym (validity-same I J l a h) ∙ e in
+          let f : validity_at J a ≡ Ok tt = sym (validity-same I J l a h) ∙ e in
           rw (e, f)
           (λ i. cond (leb (l i) a) (Ok None)
           (Ok (Some (record {
