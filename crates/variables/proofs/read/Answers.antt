@@ -1,7 +1,7 @@
 -- `variables::read` meets its contract: the scan for the name first, then the pair.
 use mathlib.Core.Path.{refl, sym, ap, ◌∙◌}
 use native.Mathlib.Omega.{arith}
-use Rattle.pairs.proofs.Passed.{passed-on}
+use Rattle.errors.proofs.Passed.{passed-on}
 use Rattle.values.specs.Helpers.{part}
 use Rattle.variables.specs.Calls as Calls
 use Rattle.variables.specs.Views.{amount_reply}
