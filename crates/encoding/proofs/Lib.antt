@@ -1,4 +1,5 @@
 pub mod RecodeLaws
+pub mod PlainLaws
 pub mod SpellingTurns
 pub mod EncodeTurns
 pub mod RecodeTurns
