@@ -206,12 +206,17 @@ module _ (area name buffer : List ℕ) (s : Scanned) (e : Ok s ≡ named_scan ar
   scanned-read = call-scanned name (read_into buffer) area s e
 
   -- no pair has the name
-  pub read-none : s.place ≡ None → Reads outcome (refused NoVariable) buffer
-  read-none h =
-      let f : lookup name ps ≡ missing = find-missing area name ps told.scanned.is (sym told.scanned.there ∙ h) in
-      reads-refused (read name buffer) (scanned-read ∙ read-missing name ps area buffer f) refl
+  pub read-none : {r : Result Place Error} {f : Error} → r ≡ ok_or s.place NoVariable → r ≡ Err f → Reads outcome (refused f) buffer
+  read-none k h =
+      let n = no_place NoVariable s.place _ (sym k ∙ h) in
+      let f : lookup name ps ≡ missing = find-missing area name ps told.scanned.is (sym told.scanned.there ∙ n.0) in
+      let r = reads-refused (read name buffer) (scanned-read ∙ read-missing name ps area buffer f) refl in
+      record { result_value = ap refused n.1 ∙ r.result_value; buffer_after = r.buffer_after }
 
-  module _ (p : Place) (h : s.place ≡ Some p) where
+  module _ {r : Result Place Error} (p : Place) (k : r ≡ ok_or s.place NoVariable) (ok : r ≡ Ok p) where
+    h : s.place ≡ Some p
+    h = some-place NoVariable s.place p (sym k ∙ ok)
+
     abbrev value : List ℕ
     value = decode (part area (p.equals + 1) p.end)
 
