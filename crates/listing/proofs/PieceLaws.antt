@@ -12,39 +12,38 @@ use Rattle.lists.proofs.Tests.{split, clash}
 use Rattle.lists.proofs.PastedLaws.{set-pasted, set_after, pasted-under, pasted-more, length-pasted}
 use Rattle.lists.proofs.WrittenLaws.{written_in_lem, written-kept}
 use Rattle.errors.specs.declared.Error.TheVariants.{ShortBuffer}
-use Rattle.listing.specs.declared.Listed.{Listed}
-use Rattle.listing.specs.declared.Listed.TheVariants.{Written, Refused}
+use Rattle.std.specs.Prelude.{Ok, Err}
 use Rattle.listing.specs.Text.{decimal, hex_digit, hex_byte}
-use Rattle.listing.specs.Listed.{listed_of}
+use Rattle.listing.specs.Listed.{Listed, listed_of}
 use Rattle.listing.specs.Helpers.{Put}
 use Rattle.listing.proofs.WordLaws.{decimal_digit, decimal-more, length_more}
 
 -- what is answered, where the text has room and where it has none
 module _ (t : List ℕ) (room : ℕ) where
-  pub listed-fits : length t ≤ room → listed_of t room ≡ Written (length t)
+  pub listed-fits : length t ≤ room → listed_of t room ≡ Ok (length t)
   unfolding listed_of
   listed-fits h = rw (le-leb _ _ h)
 
-  pub listed-not : room < length t → listed_of t room ≡ Refused ShortBuffer
+  pub listed-not : room < length t → listed_of t room ≡ Err ShortBuffer
   unfolding listed_of
   listed-not h = rw (lt-leb _ _ h)
 
 module _ (t d : List ℕ) where
-  pub listed-short : length d < length t → (Refused ShortBuffer ≡ listed_of t (length d)) × (d ≡ written_in t d)
+  pub listed-short : length d < length t → (Err ShortBuffer ≡ listed_of t (length d)) × (d ≡ written_in t d)
   listed-short h = (sym (listed-not t (length d) h), sym (written-kept t d h))
 
-  pub listed-written : {n : ℕ} {b : List ℕ} → Put d 0 t n b → (Written n ≡ listed_of t (length d)) × (b ≡ written_in t d)
+  pub listed-written : {n : ℕ} {b : List ℕ} → Put d 0 t n b → (Ok n ≡ listed_of t (length d)) × (b ≡ written_in t d)
   listed-written {n} {b} p =
       let e : n ≡ length t = p.end ∙ zero-add (length t) in
       let h : length t ≤ length d = omega (arith, p.room) in
-      (ap Written e ∙ sym (listed-fits t (length d) h), p.text ∙ sym (written_in_lem t d h))
+      (ap Ok e ∙ sym (listed-fits t (length d) h), p.text ∙ sym (written_in_lem t d h))
 
   pub listed-as : {u : List ℕ} {r : Listed} {b : List ℕ} → t ≡ u → (r ≡ listed_of t (length d)) × (b ≡ written_in t d)
       → (r ≡ listed_of u (length d)) × (b ≡ written_in u d)
   listed-as e q = rw e at q
 
 -- a text that is written lies inside the buffer
-pub written-inside : (t : List ℕ) (room n : ℕ) → listed_of t room ≡ Written n → n ≤ room
+pub written-inside : (t : List ℕ) (room n : ℕ) → listed_of t room ≡ Ok n → n ≤ room
 written-inside t room n e =
     split (leb (length t) room)
     (λ u. let h = leb-true (length t) room u in

@@ -5,52 +5,21 @@ ghost use Rattle.std.specs.Prelude.{◌≡◌, [], ◌∷◌, ◌++◌, ◌+◌,
 ghost use Rattle.lists.specs.Pasted.{written_in};
 ghost use Rattle.partitions.specs.Walk.{broken, walk};
 ghost use Rattle.listing.specs.Text.{decimal, hex_digit, hex_byte, visible, shown_name, line, text_by, listing_text};
-ghost use Rattle.listing.specs.Listed.{listed_of, list_answer};
+ghost use Rattle.listing.specs.Listed.{listed_of};
 ghost use Rattle.listing.specs.Helpers.{Put, measured_of, lines_of, Covered};
 
 use errors::Error;
 use header::Header;
-use partitions::{Checked, Cursor, Partition, Step};
+use partitions::{Cursor, Partition};
 
 // An image of more bytes is too long for a listing.
 const MAX_LISTED: usize = 65536;
 
-// What writing a listing answers.
+// What the lines of an image take: the bytes of all lines, and the blocks of all partitions.
 #[derive(Clone, Copy)]
-pub enum Listed {
-    // The text stands at the buffer's start; its length.
-    Written { length: usize },
-    Refused(Error),
-}
-
-// The caller's view of `Listed`: code 0 and the length, or the error's code and 0.
-#[derive(Clone, Copy)]
-pub struct ListAnswer {
-    pub code: u32,
-    pub length: usize,
-}
-
-impl Listed {
-    pub fn answer(self) -> ListAnswer
-        ensures { result ≡ list_answer self }
-    {
-        match self {
-            Listed::Written { length } => ListAnswer { code: 0, length },
-            Listed::Refused(e) => ListAnswer {
-                code: e.code(),
-                length: 0,
-            },
-        }
-    }
-}
-
-// What the lines of an image take.
-#[derive(Clone, Copy)]
-enum Measured {
-    // The bytes of all lines, and the blocks of all partitions.
-    Lines { bytes: usize, blocks: usize },
-    // A rule is broken.
-    Broken(Error),
+struct Lines {
+    bytes: usize,
+    blocks: usize,
 }
 
 // The digits of a number in decimal.
@@ -210,28 +179,25 @@ fn put_line(text: &mut [u8], start: usize, image: &[u8], p: Partition) -> usize
     put_byte(text, at, b'\n')
 }
 
-// What the lines of an image take.
-fn measure(image: &[u8]) -> Measured
+// What the lines of an image take, or the rule that it breaks.
+fn measure(image: &[u8]) -> Result<Lines, Error>
     requires { length image.now ≤ 65536 }
     ensures { result ≡ measured_of image.now }
 {
-    let checked = partitions::check(image);
-    if let Checked::Refused(e) = checked {
-        return Measured::Broken(e);
-    }
+    partitions::check(image)?;
     let mut cursor = Cursor::start();
     let mut bytes: usize = 0;
     let mut blocks: usize = 0;
     loop {
-        let step = cursor.step(image);
-        match step {
-            Step::Next(p, next) => {
+        match cursor.step(image) {
+            Ok(Some(step)) => {
+                let p = step.here;
+                cursor = step.next;
                 bytes += line_len(image, p);
                 blocks += p.blocks.0 as usize;
-                cursor = next;
             }
-            Step::End => break Measured::Lines { bytes, blocks },
-            Step::Broken(e) => break Measured::Broken(e),
+            Ok(None) => break Ok(Lines { bytes, blocks }),
+            Err(e) => break Err(e),
         }
     }
 }
@@ -245,32 +211,31 @@ fn put_lines(text: &mut [u8], start: usize, image: &[u8]) -> usize
     let mut cursor = Cursor::start();
     let mut at = start;
     loop {
-        let step = cursor.step(image);
-        match step {
-            Step::Next(p, next) => {
-                at = put_line(text, at, image, p);
-                cursor = next;
+        match cursor.step(image) {
+            Ok(Some(step)) => {
+                cursor = step.next;
+                at = put_line(text, at, image, step.here);
             }
-            Step::End => break at,
-            Step::Broken(_) => break at,
+            Ok(None) => break at,
+            Err(_) => break at,
         }
     }
 }
 
 // A text of one piece.
-fn list_piece(text: &mut [u8], piece: &[u8]) -> Listed
+fn list_piece(text: &mut [u8], piece: &[u8]) -> Result<usize, Error>
     ensures value { result ≡ listed_of piece.now (length text.old) }
     ensures text_after { text.new ≡ written_in piece.now text.old }
 {
     if text.len() < piece.len() {
-        return Listed::Refused(Error::ShortBuffer);
+        return Err(Error::ShortBuffer);
     }
     let length = put(text, 0, piece);
-    Listed::Written { length }
+    Ok(length)
 }
 
 // The text of a refused image.
-fn list_refused(text: &mut [u8], e: Error) -> Listed
+fn list_refused(text: &mut [u8], e: Error) -> Result<usize, Error>
     ensures value { result ≡ listed_of (text_by [] (broken e)) (length text.old) }
     ensures text_after { text.new ≡ written_in (text_by [] (broken e)) text.old }
 {
@@ -278,44 +243,44 @@ fn list_refused(text: &mut [u8], e: Error) -> Listed
     let offset = e.offset();
     let digits = decimal_len(code) + decimal_len(offset);
     if text.len() < digits + 13 {
-        return Listed::Refused(Error::ShortBuffer);
+        return Err(Error::ShortBuffer);
     }
     let mut at = put(text, 0, b"refused ");
     at = put_decimal(text, at, code);
     at = put(text, at, b" at ");
     at = put_decimal(text, at, offset);
     let length = put_byte(text, at, b'\n');
-    Listed::Written { length }
+    Ok(length)
 }
 
 // The text of an accepted image, of which the size of the lines is known.
-fn list_accepted(text: &mut [u8], image: &[u8], bytes: usize, blocks: usize) -> Listed
+fn list_accepted(text: &mut [u8], image: &[u8], lines: Lines) -> Result<usize, Error>
     requires image_len_bound { length image.now ≤ 65536 }
-    requires image_value { measured_of image.now ≡ Measured.Lines bytes blocks }
+    requires image_value { measured_of image.now ≡ Ok lines }
     ensures value { result ≡ listed_of (text_by image.now (walk image.now)) (length text.old) }
     ensures text_after { text.new ≡ written_in (text_by image.now (walk image.now)) text.old }
 {
+    let Lines { bytes, blocks } = lines;
     if text.len() < bytes + decimal_len(blocks) + 27 {
-        return Listed::Refused(Error::ShortBuffer);
+        return Err(Error::ShortBuffer);
     }
     let mut at = put(text, 0, b"at blocks sig name\n");
     at = put_lines(text, at, image);
     at = put_decimal(text, at, blocks);
     let length = put(text, at, b" blocks\n");
-    Listed::Written { length }
+    Ok(length)
 }
 
 // Writes the listing of an image to the buffer's start; nothing is written where it has no room.
-pub fn listing(image: &[u8], text: &mut [u8]) -> Listed
+pub fn listing(image: &[u8], text: &mut [u8]) -> Result<usize, Error>
     ensures value { result ≡ listed_of (listing_text image.now) (length text.old) }
     ensures text_after { text.new ≡ written_in (listing_text image.now) text.old }
 {
     if MAX_LISTED < image.len() {
         return list_piece(text, b"too long\n");
     }
-    let measured = measure(image);
-    match measured {
-        Measured::Lines { bytes, blocks } => list_accepted(text, image, bytes, blocks),
-        Measured::Broken(e) => list_refused(text, e),
+    match measure(image) {
+        Ok(lines) => list_accepted(text, image, lines),
+        Err(e) => list_refused(text, e),
     }
 }

@@ -13,10 +13,10 @@ use Rattle.listing.proofs.list_accepted.Goals.{After-decimal_len}
 -- the length of the text, and its bound
 sized : (c : After-decimal_len)
     → (length (text_by c.args.image.now (walk c.args.image.now)) ≤ 131_072)
-    × (length (text_by c.args.image.now (walk c.args.image.now)) ≡ c.args.bytes + length (decimal c.args.blocks) + 27)
+    × (length (text_by c.args.image.now (walk c.args.image.now)) ≡ c.args.lines.bytes + length (decimal c.args.lines.blocks) + 27)
 sized c =
     let a = c.args in
-    (text-by-fits a.image.now c.requires.image_len_bound, measured-length a.image.now a.bytes a.blocks c.requires.image_value)
+    (text-by-fits a.image.now c.requires.image_len_bound, measured-length a.image.now a.lines c.requires.image_value)
 
 pub overflow_add-bytes : goal.overflow_add-bytes
 overflow_add-bytes c = omega (arith, sized (goal.at.overflow_add-bytes c).After-decimal_len)
@@ -36,24 +36,24 @@ put_lines-at-requires c =
     let a = c.args in
     let m = c.requires.image_value in
     record {
-      covered = measured-covered a.image.now a.bytes a.blocks m;
-      image_in_bounds = omega (arith, measured-lines a.image.now a.bytes a.blocks m);
+      covered = measured-covered a.image.now a.lines m;
+      image_in_bounds = omega (arith, measured-lines a.image.now a.lines m);
     }
 
 pub put_decimal-at-requires : goal.put_decimal-at-requires
 put_decimal-at-requires c =
     let a = c.args in
-    omega (arith, measured-lines a.image.now a.bytes a.blocks c.requires.image_value)
+    omega (arith, measured-lines a.image.now a.lines c.requires.image_value)
 
 pub put-length-requires : goal.put-length-requires
 put-length-requires c =
     let a = c.args in
-    omega (arith, measured-lines a.image.now a.bytes a.blocks c.requires.image_value)
+    omega (arith, measured-lines a.image.now a.lines c.requires.image_value)
 
 pub returns : goal.returns
 returns c =
     let a = c.args in
     let t = listed-written (text_by a.image.now (walk a.image.now)) a.text.now
     (put_as (put_then (put_then (put_then c.put-at.ensures c.put_lines-at.ensures) c.put_decimal-at.ensures) c.put-length.ensures)
-    (measured-pieces a.image.now a.bytes a.blocks c.requires.image_value)) in
+    (measured-pieces a.image.now a.lines c.requires.image_value)) in
     record { value = t.0; text_after = t.1 }

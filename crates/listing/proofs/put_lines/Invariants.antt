@@ -4,8 +4,8 @@ use lib.ListN.{length}
 use Rattle.listing.proofs.LinesLaws.{Writing}
 use Rattle.listing.proofs.put_lines.Given as goal
 
-abbrev pub invariant-loop-p : goal.invariant-loop-p
-invariant-loop-p l = Writing l.image l.initial.text l.start l.cursor.at l.at l.text
+abbrev pub invariant-loop-step : goal.invariant-loop-step
+invariant-loop-step l = Writing l.image l.initial.text l.start l.cursor.at l.at l.text
 
-abbrev pub decreases-loop-p : goal.decreases-loop-p
-decreases-loop-p l = length l.image - l.cursor.at
+abbrev pub decreases-loop-step : goal.decreases-loop-step
+decreases-loop-step l = length l.image - l.cursor.at
