@@ -6,7 +6,6 @@ use native.Mathlib.Nat.{zero-add}
 use native.Mathlib.Omega.{arith}
 use lib.ListN.{length, length-append}
 use Rattle.lists.proofs.Tests.{clash}
-use Rattle.lists.proofs.Grown.{Grown, grown-none, grown-as, grown-piece, grown-same, grown-all, grown-end}
 use Rattle.errors.specs.declared.Error.{Error}
 use Rattle.partitions.specs.declared.Partition.{Partition}
 use Rattle.partitions.specs.declared.Step.{Step}
@@ -16,8 +15,10 @@ use Rattle.partitions.proofs.WalkLaws.{rest, rest-next, rest_end, rest-broken, o
 use Rattle.partitions.proofs.LoopLaws.{Goes, next-goes, check-broken, accepted-rest, covered-rest}
 use Rattle.std.specs.Prelude.{Ok, Err, Some, None}
 use Rattle.listing.specs.Text.{line, lines, blocks_sum}
-use Rattle.listing.specs.Helpers.{Put, Measured, measured_by, measured_of, lines_by, lines_of, Covered}
+use Rattle.listing.specs.Helpers.{HasRoom, Wrote, Measured, measured_by, measured_of, lines_by, lines_of, Covered}
+use Rattle.listing.specs.declared.Writer.{Writer}
 use Rattle.listing.proofs.WordLaws.{line-within}
+use Rattle.listing.proofs.WriterLaws.{Writing, writing-start, writing-room, writing-next, writing-as, writing-end}
 
 pub goes-within : (image : List ℕ) (at : ℕ) (s : Step) → length image ≤ 65_536 → Goes image at s → length (line image s.here) ≤ 28
 goes-within image at s h g = line-within image s.here (omega (arith, g.here, g.past, g.inside)) (omega (arith, g.past, g.inside))
@@ -83,22 +84,22 @@ module _ (image : List ℕ) (at bytes blocks : ℕ) (k : Measuring image at byte
   pub measure-broken : (x : Error) → step_at image at ≡ Err x → Err x ≡ measured_of image
   measure-broken x e = loop-broken image at (added image bytes blocks) Err _ k.rests x e
 
--- the lines before the offset cur are written, up to o; those of the partitions that are left are to come
-pub record Writing (image d : List ℕ) (start cur o : ℕ) (b : List ℕ) : Type 0 where
+-- the lines before the offset cur are written; those of the partitions that are left are to come
+pub record WritingLines (image : List ℕ) (u : Writer) (cur : ℕ) (v : Writer) : Type 0 where
   pub left : List Partition
   pub so : rest image cur ≡ covered left
-  pub grown : Grown (lines_of image) d start o (lines image left) b
+  pub writing : Writing u (lines_of image) (lines image left) v
 
-pub write-start : (image d : List ℕ) (start : ℕ) → Covered image → start ≤ length d → Writing image d start 0 start d
+pub write-start : (image : List ℕ) (u : Writer) → Covered image → HasRoom u (length (lines_of image)) → WritingLines image u 0 u
 unfolding lines_of lines_by
-write-start image d start k h =
+write-start image u k h =
     record {
       left = k.all;
       so = covered-rest image k.all k.so;
-      grown = grown-as (grown-none (lines_of image) d start h) (ap (lines_by image) k.so);
+      writing = writing-as (writing-start u (lines_of image) h) (ap (lines_by image) k.so);
     }
 
-module _ {image d : List ℕ} {start cur o : ℕ} {b : List ℕ} (s : Writing image d start cur o b) where
+module _ {image : List ℕ} {u : Writer} {cur : ℕ} {v : Writer} (s : WritingLines image u cur v) where
   -- none of them is broken
   pub write-broken {ℓ} : {A : Type ℓ} (x : Error) → step_at image cur ≡ Err x → A
   write-broken x e = clash (cc (rest-broken image cur x e, s.so))
@@ -107,45 +108,30 @@ module _ {image d : List ℕ} {start cur o : ℕ} {b : List ℕ} (s : Writing im
   pub record Split (t : Step) : Type 0 where
     pub after : List Partition
     pub so-after : rest image t.next.at ≡ covered after
-    pub first-left : s.left ≡ t.here ∷ after
+    pub first-left : lines image s.left ≡ line image t.here ++ lines image after
 
   split-left : (t : Step) → step_at image cur ≡ Ok (Some t) → Split t
+  unfolding lines
   split-left t e = go (rest image t.next.at) refl (sym s.so ∙ rest-next image cur t e)
     where
       go : (w : Walk) → rest image t.next.at ≡ w → covered s.left ≡ first t.here w → Split t
-      go (covered qs) f q = record { after = qs; so-after = f; first-left = cc }
+      go (covered qs) f q =
+          let h : s.left ≡ t.here ∷ qs = cc in
+          record { after = qs; so-after = f; first-left = ap (lines image) h }
       go (broken x) f q = clash (cc)
 
-  lines_left : (t : Step) (u : Split t) → lines image s.left ≡ line image t.here ++ lines image u.after
-  unfolding lines
-  lines_left t u = ap (lines image) u.first-left
-
-  pub write-room : start + length (lines_of image) ≤ length d → (t : Step) → step_at image cur ≡ Ok (Some t) → o + length (line image t.here) ≤ length b
+  pub write-room : HasRoom u (length (lines_of image)) → (t : Step) → step_at image cur ≡ Ok (Some t) → HasRoom v (length (line image t.here))
   write-room fits t e =
-      let g = s.grown in
-      let u = split-left t e in
-      let v : start + length g.done ≡ o = g.upto in
-      let j : length g.done + length (lines image s.left) ≡ length (lines_of image) =
-      sym (length-append g.done (lines image s.left)) ∙ ap length g.joined in
-      let l : length (lines image s.left) ≡ length (line image t.here) + length (lines image u.after) =
-      ap length (lines_left t u) ∙ length-append (line image t.here) (lines image u.after) in
-      omega (arith, grown-same g)
+      let p = split-left t e in
+      omega (arith, ap length p.first-left, length-append (line image t.here) (lines image p.after), writing-room s.writing fits)
 
-  pub write-next : (t : Step) → step_at image cur ≡ Ok (Some t) → {o' : ℕ} {b' : List ℕ} → Put b o (line image t.here) o' b'
-      → Writing image d start t.next.at o' b'
+  pub write-next : (t : Step) → step_at image cur ≡ Ok (Some t) → {w : Writer} → Wrote v (line image t.here) w → WritingLines image u t.next.at w
   write-next t e q =
-      let u = split-left t e in
-      let r = q.room in
-      let g = s.grown in
-      record {
-        left = u.after;
-        so = u.so-after;
-        grown = grown-piece g (line image t.here) (lines image u.after) (lines_left t u) (omega (arith, q.end, grown-same g)) q.end q.text;
-      }
+      let p = split-left t e in
+      record { left = p.after; so = p.so-after; writing = writing-next s.writing _ _ p.first-left q }
 
-  pub write-end : step_at image cur ≡ Ok None → Put d start (lines_of image) o b
+  pub write-end : step_at image cur ≡ Ok None → Wrote u (lines_of image) v
   unfolding lines
   write-end e =
       let z : s.left ≡ [] = cc (rest_end image cur e, s.so) in
-      let n : lines image s.left ≡ [] = ap (lines image) z in
-      record { end = grown-end s.grown n; room = s.grown.room; text = grown-all s.grown n }
+      writing-end s.writing (ap (lines image) z)
