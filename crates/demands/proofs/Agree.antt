@@ -10,7 +10,7 @@ use Rattle.lists.specs.Pasted.{pasted}
 use Rattle.lists.proofs.Tests.{clash}
 use Rattle.lists.proofs.PastedLaws.{pasted-first}
 use Rattle.errors.specs.declared.Error.TheVariants.{BadName, NoVariable, NoRoom, ShortBuffer}
-use Rattle.names.specs.declared.NameCheck.TheVariants.{Good, Wrong}
+use Rattle.names.specs.Name.{good, wrong}
 use Rattle.names.specs.Name.{name_check}
 use Rattle.names.specs.Rules.{NameRule}
 use Rattle.names.proofs.NameLaws.{check-good-exactly, split-check}
@@ -60,12 +60,12 @@ area-in-form area ps r c =
 -- ---- one step of the model
 
 module _ (m : Model) where
-  step-misnamed : (name : List ℕ) (action : Action) (at : ℕ) → name_check name ≡ Wrong at
+  step-misnamed : (name : List ℕ) (action : Action) (at : ℕ) → name_check name ≡ wrong at
       → call_model (named name action) m ≡ keeps (denies 11 at (lent_by action)) m
   unfolding call_model
   step-misnamed name action at g = rw g
 
-  step-named : (name : List ℕ) (action : Action) → name_check name ≡ Good → call_model (named name action) m ≡ action_model action name m
+  step-named : (name : List ℕ) (action : Action) → name_check name ≡ good → call_model (named name action) m ≡ action_model action name m
   unfolding call_model
   step-named name action g = rw g
 

@@ -2,7 +2,7 @@
 use Rattle.std.specs.Prelude.{ℕ, ◌≤◌, ◌≡◌, List, [], ◌∷◌, ◌≢◌, ◌⊎◌, ◌↔◌, length, take}
 use Rattle.lists.specs.Bytes.{AllBytes}
 use Rattle.partitions.specs.declared.Partition.{Partition}
-use Rattle.partitions.specs.declared.Checked.TheVariants.{Accepted}
+use Rattle.std.specs.Prelude.{Ok, Err}
 use Rattle.partitions.specs.Find.{check_of}
 use Rattle.partitions.specs.Cover.{PartitionCount, area_at, OutsideKept}
 use Rattle.values.specs.Rules.{Spells, Canonical}

@@ -4,7 +4,7 @@
 ghost use Rattle.std.specs.Prelude.{◌≡◌, ◌+◌, ◌/◌, ◌%◌, ◌≤◌, ◌<◌, length as len};
 ghost use Rattle.lists.specs.Bytes.{AllBytes};
 ghost use Rattle.header.specs.Checksum.{sum, sumcheck, fold};
-ghost use Rattle.header.specs.Header.{bytes_of, byte_at, name_at, header_at, covered_bytes, new_header, first_broken, validity_of, validity_at, validity_answer};
+ghost use Rattle.header.specs.Header.{bytes_of, byte_at, name_at, header_at, covered_bytes, fits_header, sealed, first_broken, validity_of, validity_at};
 
 use errors::{Error, HeaderFault};
 
@@ -23,6 +23,14 @@ impl Blocks {
     {
         Bytes(self.0 as usize * Header::BLOCK)
     }
+
+    // Whether a header can hold the length: its two bytes, and no length of zero.
+    #[tactic(auto, unfolding(crate::specs::Header::fits_header))]
+    pub fn fits_header(self) -> bool
+        ensures { result ≡ fits_header self }
+    {
+        1 <= self.0 && self.0 <= Header::MAX_LENGTH
+    }
 }
 
 // The 16 bytes at the start of a partition.
@@ -32,43 +40,6 @@ pub struct Header {
     pub checksum: u8,
     pub length: Blocks,
     pub name: [u8; 12],
-}
-
-// A header that was made of its fields, and whether its length is one that a header can hold.
-#[derive(Clone, Copy)]
-pub struct NewHeader {
-    pub header: Header,
-    pub allowed: bool,
-}
-
-// What the rules say of a header.
-#[derive(Clone, Copy)]
-pub enum Validity {
-    // It breaks no rule.
-    Valid,
-    // The first rule that it breaks.
-    Invalid(Error),
-}
-
-// The caller's view of `Validity`: 0, or the error's code and offset.
-#[derive(Clone, Copy)]
-pub struct ValidityAnswer {
-    pub code: u32,
-    pub offset: usize,
-}
-
-impl Validity {
-    pub fn answer(self) -> ValidityAnswer
-        ensures { result ≡ validity_answer self }
-    {
-        match self {
-            Validity::Valid => ValidityAnswer { code: 0, offset: 0 },
-            Validity::Invalid(e) => ValidityAnswer {
-                code: e.code(),
-                offset: e.offset(),
-            },
-        }
-    }
 }
 
 impl Header {
@@ -82,8 +53,8 @@ impl Header {
     pub const MAX_LENGTH: u32 = 65535;
 
     // The header of these fields, with the checksum that is right for them.
-    pub fn new(signature: u8, length: Blocks, name: [u8; 12]) -> NewHeader
-        ensures { result ≡ new_header signature length name }
+    pub fn new(signature: u8, length: Blocks, name: [u8; 12]) -> Self
+        ensures { result ≡ sealed signature length name }
     {
         let blank = Header {
             signature,
@@ -91,29 +62,9 @@ impl Header {
             length,
             name,
         };
-        let checksum = blank.computed_checksum();
-        let header = Header {
-            signature,
-            checksum,
-            length,
-            name,
-        };
-        let blocks = length.0;
-        if blocks == 0 {
-            return NewHeader {
-                header,
-                allowed: false,
-            };
-        }
-        if Header::MAX_LENGTH < blocks {
-            return NewHeader {
-                header,
-                allowed: false,
-            };
-        }
-        NewHeader {
-            header,
-            allowed: true,
+        Header {
+            checksum: blank.computed_checksum(),
+            ..blank
         }
     }
 
@@ -146,7 +97,7 @@ impl Header {
     }
 
     // The first rule that the header at an offset breaks; one that is cut off breaks 2 or 3, whatever its checksum.
-    pub fn check_at(image: &[u8], at: usize) -> Validity
+    pub fn check_at(image: &[u8], at: usize) -> Result<(), Error>
         ensures { result ≡ validity_at image.now at }
     {
         let n = image.len();
@@ -171,7 +122,7 @@ impl Header {
     }
 
     // The first rule that the header breaks, where it stands at an offset with so many bytes of the image left.
-    pub fn check(self, at: usize, room: usize) -> Validity
+    pub fn check(self, at: usize, room: usize) -> Result<(), Error>
         ensures { result ≡ validity_of self at room }
     {
         first_broken(
@@ -185,25 +136,31 @@ impl Header {
 }
 
 // The first broken rule in the order 2, 3, 4.
-fn first_broken(blocks: Blocks, stored: u8, computed: u8, at: usize, room: usize) -> Validity
+fn first_broken(
+    blocks: Blocks,
+    stored: u8,
+    computed: u8,
+    at: usize,
+    room: usize,
+) -> Result<(), Error>
     ensures { result ≡ first_broken blocks stored computed at room }
 {
     // Compared before the other tests, since the compiler then adds the covered bytes as a vector.
     let differs = stored != computed;
     if blocks.0 == 0 {
         let fault = HeaderFault::ZeroLength;
-        return Validity::Invalid(Error::BadHeader { fault, at });
+        return Err(Error::BadHeader { fault, at });
     }
     let bytes = blocks.bytes();
     if room < bytes.0 {
         let fault = HeaderFault::PastEnd;
-        return Validity::Invalid(Error::BadHeader { fault, at });
+        return Err(Error::BadHeader { fault, at });
     }
     if differs {
         let fault = HeaderFault::Checksum;
-        return Validity::Invalid(Error::BadHeader { fault, at });
+        return Err(Error::BadHeader { fault, at });
     }
-    Validity::Valid
+    Ok(())
 }
 
 // The byte k places after an offset, 0 past the image's end.

@@ -10,3 +10,4 @@ pub mod PairPlaces
 pub mod PairRuns
 pub mod JoinLaws
 pub mod FindPlaces
+pub mod Passed
