@@ -10,7 +10,8 @@ use Rattle.std.specs.Prelude.{Some, None, position}
 use Rattle.std.specs.List.{position_or_len}
 use Rattle.lists.specs.Helpers.{until_either}
 use Rattle.lists.proofs.Tests.{split, clash}
-use Rattle.lists.proofs.FindLaws.{until_none, until-here, until-next, until_skip}
+use Rattle.lists.proofs.FindLaws.{until-next}
+use Rattle.encoding.proofs.UntilLaws.{until_none, until-here, until_skip}
 use Rattle.values.specs.Value.{escaped}
 
 -- in the words of std
