@@ -1,12 +1,13 @@
 // The header of a partition, its checksum and its rules.
 #![tactic(auto)]
 
-ghost use Rattle.std.specs.Prelude.{◌≡◌, ◌+◌, ◌/◌, ◌%◌, ◌≤◌, ◌<◌, length as len};
+ghost use Rattle.std.specs.Prelude.{◌≡◌, ℕ, ◌+◌, ◌*◌, ◌/◌, ◌%◌, ◌≤◌, ◌<◌, length as len, take, drop, get_or, sum, MatchOption};
 ghost use Rattle.lists.specs.Bytes.{AllBytes};
-ghost use Rattle.header.specs.Checksum.{sum, sumcheck, fold};
-ghost use Rattle.header.specs.Header.{bytes_of, byte_at, name_at, header_at, covered_bytes, fits_header, sealed, first_broken, validity_of, validity_at};
+ghost use Rattle.header.specs.Checksum.{sumcheck, fold};
+ghost use Rattle.header.specs.Header.{bytes_of, byte_at, header_at, covered_bytes, fits_header, sealed, first_broken, validity_of, validity_at};
 
 use errors::{Error, HeaderFault};
+use std::array;
 
 // A length in blocks, as a header holds it.
 #[derive(Clone, Copy, Default)]
@@ -22,6 +23,13 @@ impl Blocks {
         ensures { result ≡ bytes_of self }
     {
         Bytes(self.0 as usize * Header::BLOCK)
+    }
+
+    // The length of these two bytes, the high one first.
+    fn of_bytes(high: u8, low: u8) -> Self
+        ensures { result.0 ≡ high * 256 + low }
+    {
+        Blocks(u32::from(high) * 256 + u32::from(low))
     }
 
     // Whether a header can hold the length: its two bytes, and no length of zero.
@@ -72,11 +80,21 @@ impl Header {
     pub fn read(image: &[u8], at: usize) -> Self
         ensures { result ≡ header_at image.now at }
     {
+        match whole_header(image, at) {
+            Some(bytes) => Header::of_bytes(bytes),
+            None => Header::of_bytes(&cut_off(image, at)),
+        }
+    }
+
+    // The header of its 16 bytes.
+    fn of_bytes(bytes: &[u8; 16]) -> Self
+        ensures { result ≡ header_at bytes.now 0 }
+    {
         Header {
-            signature: Header::signature_at(image, at),
-            checksum: byte(image, at, 1),
-            length: Header::length_at(image, at),
-            name: name_at(image, at),
+            signature: bytes[0],
+            checksum: bytes[1],
+            length: Blocks::of_bytes(bytes[2], bytes[3]),
+            name: *bytes.last_chunk().unwrap(),
         }
     }
 
@@ -91,34 +109,29 @@ impl Header {
     pub fn length_at(image: &[u8], at: usize) -> Blocks
         ensures { result ≡ (header_at image.now at).length }
     {
-        let high = byte(image, at, 2) as u32;
-        let low = byte(image, at, 3) as u32;
-        Blocks(high * 256 + low)
+        Blocks::of_bytes(byte(image, at, 2), byte(image, at, 3))
     }
 
     // The first rule that the header at an offset breaks; one that is cut off breaks 2 or 3, whatever its checksum.
     pub fn check_at(image: &[u8], at: usize) -> Result<(), Error>
         ensures { result ≡ validity_at image.now at }
     {
-        let n = image.len();
-        if n <= at {
-            return first_broken(Header::length_at(image, at), 0, 0, at, 0);
+        let room = image.len().saturating_sub(at);
+        match whole_header(image, at) {
+            Some(bytes) => {
+                let length = Blocks::of_bytes(bytes[2], bytes[3]);
+                let computed = checksum_of_whole(bytes);
+                first_broken(length, bytes[1], computed, at, room)
+            }
+            None => first_broken(Header::length_at(image, at), 0, 0, at, room),
         }
-        let room = n - at;
-        if room < Header::SIZE {
-            return first_broken(Header::length_at(image, at), 0, 0, at, room);
-        }
-        let length = Header::length_at(image, at);
-        let computed = checksum_at(image, at);
-        first_broken(length, image[at + 1], computed, at, room)
     }
 
     // The checksum of the 15 bytes of signature, length and name.
     pub fn computed_checksum(self) -> u8
         ensures { result ≡ sumcheck (covered_bytes self) }
     {
-        let name = self.name;
-        checksum_of(self.signature, self.length, sum_name(&name))
+        checksum_of(self.signature, self.length, sum_bytes(&self.name))
     }
 
     // The first rule that the header breaks, where it stands at an offset with so many bytes of the image left.
@@ -167,95 +180,34 @@ fn first_broken(
 fn byte(image: &[u8], at: usize, k: usize) -> u8
     ensures { result ≡ byte_at image.now at k }
 {
-    let n = image.len();
-    if at < n {
-        if k < n - at {
-            return image[at + k];
-        }
+    match image.get(at..) {
+        Some(rest) => rest.get(k).copied().unwrap_or(0),
+        None => 0,
     }
-    0
 }
 
-// The name in the header at an offset; that of a whole header is read without a test for each byte.
-fn name_at(image: &[u8], at: usize) -> [u8; 12]
-    ensures { result ≡ name_at image.now at }
+// The 16 bytes of a whole header, none where it is cut off.
+fn whole_header(image: &[u8], at: usize) -> Option<&[u8; 16]>
+    ensures { MatchOption result (len image.now < at + 16) (λ bytes. (at + 16 ≤ len image.now) × (bytes.now ≡ take 16 (drop at image.now))) }
 {
-    let n = image.len();
-    if at < n {
-        if Header::SIZE <= n - at {
-            return whole_name(image, at);
-        }
-    }
-    cut_name(image, at)
+    image.get(at..)?.first_chunk()
 }
 
-// The name in a whole header.
-fn whole_name(image: &[u8], at: usize) -> [u8; 12]
-    requires { at + 16 ≤ len image.now }
-    ensures { result ≡ name_at image.now at }
+// The 16 bytes of a header that may be cut off; out of line, so that those of a whole one stay together.
+#[inline(never)]
+fn cut_off(image: &[u8], at: usize) -> [u8; 16]
+    ensures { (k : ℕ) → k < 16 → get_or result k 0 ≡ byte_at image.now at k }
 {
-    [
-        image[at + 4],
-        image[at + 5],
-        image[at + 6],
-        image[at + 7],
-        image[at + 8],
-        image[at + 9],
-        image[at + 10],
-        image[at + 11],
-        image[at + 12],
-        image[at + 13],
-        image[at + 14],
-        image[at + 15],
-    ]
-}
-
-// The name in a header that may be cut off.
-fn cut_name(image: &[u8], at: usize) -> [u8; 12]
-    ensures { result ≡ name_at image.now at }
-{
-    [
-        byte(image, at, 4),
-        byte(image, at, 5),
-        byte(image, at, 6),
-        byte(image, at, 7),
-        byte(image, at, 8),
-        byte(image, at, 9),
-        byte(image, at, 10),
-        byte(image, at, 11),
-        byte(image, at, 12),
-        byte(image, at, 13),
-        byte(image, at, 14),
-        byte(image, at, 15),
-    ]
-}
-
-// A byte as a term of a sum.
-fn wide(b: u8) -> u32
-    ensures { result ≡ b }
-{
-    b as u32
+    array::from_fn(|k| byte(image, at, k))
 }
 
 // The plain sum of at most 16 bytes.
 fn sum_bytes(bytes: &[u8]) -> u32
     requires { len bytes.now ≤ 16 }
-    ensures { (result ≡ sum bytes.now) × (result ≤ 4080) × AllBytes bytes.now }
+    ensures value { result ≡ sum bytes.now }
+    ensures bytes { AllBytes bytes.now }
 {
-    let mut total: u32 = 0;
-    let mut i = 0;
-    while i < bytes.len() {
-        total += wide(bytes[i]);
-        i += 1;
-    }
-    total
-}
-
-// The plain sum of a name.
-fn sum_name(name: &[u8; 12]) -> u32
-    ensures { (result ≡ sum name.now) × (result ≤ 4080) × AllBytes name.now × (len name.now ≡ 12) }
-{
-    sum_bytes(name)
+    bytes.iter().map(|b| u32::from(*b)).sum()
 }
 
 // What stands above the low byte of a number, its carries, is added to that byte.
@@ -281,17 +233,12 @@ fn checksum_of(signature: u8, length: Blocks, name: u32) -> u8
     ensures { result ≡ fold (fold (name + signature + length.0 / 256 % 256 + length.0 % 256)) }
 {
     let blocks = length.0;
-    fold_twice(name + wide(signature) + blocks / 256 % 256 + blocks % 256)
+    fold_twice(name + u32::from(signature) + blocks / 256 % 256 + blocks % 256)
 }
 
-// The checksum that is right for a whole header at an offset.
-fn checksum_at(image: &[u8], at: usize) -> u8
-    requires { at + 16 ≤ len image.now }
-    ensures { result ≡ sumcheck (covered_bytes (header_at image.now at)) }
+// The checksum that is right for a whole header: of all its bytes but the stored checksum.
+fn checksum_of_whole(bytes: &[u8; 16]) -> u8
+    ensures { result ≡ sumcheck (covered_bytes (header_at bytes.now 0)) }
 {
-    let start = at + Header::NAME_OFFSET;
-    let end = at + Header::SIZE;
-    let name = sum_bytes(&image[start..end]);
-    let length = Header::length_at(image, at);
-    checksum_of(Header::signature_at(image, at), length, name)
+    fold_twice(sum_bytes(bytes) - u32::from(bytes[1]))
 }

@@ -1,7 +1,7 @@
 -- `edits::remove` meets its contract: the scan for the name first; then the tail takes the pair's place, or there is none.
 use mathlib.Core.Path.{sym, ap, ◌∙◌}
 use native.Mathlib.Omega.{arith}
-use Rattle.pairs.proofs.Passed.{passed-on}
+use Rattle.errors.proofs.Passed.{passed-on}
 use Rattle.variables.specs.Calls as Calls
 use Rattle.variables.specs.Views.{edit_reply}
 use Rattle.variables.proofs.CallPlaces.{edit-refused, call-refused, some-place, no_place}

@@ -1,7 +1,7 @@
 -- `edits::set` meets its contract: the scan for the name first; then the pair is replaced, or a new one is put at the end of the pairs.
 use mathlib.Core.Path.{ap, ◌∙◌}
 use native.Mathlib.Omega.{arith}
-use Rattle.pairs.proofs.Passed.{passed-on}
+use Rattle.errors.proofs.Passed.{passed-on}
 use Rattle.variables.specs.Calls as Calls
 use Rattle.variables.specs.Views.{edit_reply}
 use Rattle.variables.proofs.CallPlaces.{edit-refused, call-refused}

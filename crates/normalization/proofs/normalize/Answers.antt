@@ -1,6 +1,6 @@
 -- `normalization::normalize` meets its contract: a fault refuses the call before anything is written.
 use mathlib.Core.Path.{ap, ◌∙◌}
-use Rattle.pairs.proofs.Passed.{passed-on}
+use Rattle.errors.proofs.Passed.{passed-on}
 use Rattle.variables.specs.Views.{edit_reply}
 use Rattle.normalization.proofs.NormalizeLaws.{scan-parses, normalize-refused, normalize-done}
 use Rattle.normalization.proofs.normalize.Goals as goal
