@@ -237,6 +237,7 @@ fn list_refused(text: &mut [u8], e: Error) -> Result<usize, Error>
 }
 
 // The text of an accepted image, of which the size of the lines is known.
+#[tactic(auto, using(crate::proofs::TextLaws::measured))]
 fn list_accepted(text: &mut [u8], image: &[u8], lines: Lines) -> Result<usize, Error>
     requires image_len_bound { length image.now ≤ 65536 }
     requires image_value { measured_of image.now ≡ Ok lines }

@@ -7,7 +7,7 @@ use lib.ListN.{length}
 use Rattle.partitions.specs.Walk.{walk}
 use Rattle.listing.proofs.PieceLaws.{listed-short}
 use Rattle.listing.proofs.WriterLaws.{wrote_then, listed-written}
-use Rattle.listing.proofs.TextLaws.{text-by-fits, measured-covered, measured-pieces, measured-lines, measured-length}
+use Rattle.listing.proofs.TextLaws.{text-by-fits, measured-pieces, measured-length}
 use Rattle.listing.specs.Text.{decimal, text_by}
 use Rattle.listing.proofs.list_accepted.Goals as goal
 use Rattle.listing.proofs.list_accepted.Goals.{After-decimal_len}
@@ -32,25 +32,6 @@ returns-then-text-bytes c =
     let t = listed-short (text_by a.image.now (walk a.image.now)) a.text.now
     (omega (arith, sized (goal.at.returns-then-text-bytes c).After-decimal_len)) in
     record { value = t.0; text_after = t.1 }
-
-pub put_lines-requires : goal.put_lines-requires
-put_lines-requires c =
-    let a = c.args in
-    let m = c.requires.image_value in
-    record {
-      covered = measured-covered a.image.now a.lines m;
-      image_in_bounds = omega (arith, measured-lines a.image.now a.lines m);
-    }
-
-pub put_decimal-requires : goal.put_decimal-requires
-put_decimal-requires c =
-    let a = c.args in
-    omega (arith, measured-lines a.image.now a.lines c.requires.image_value)
-
-pub put-requires-2 : goal.put-requires-2
-put-requires-2 c =
-    let a = c.args in
-    omega (arith, measured-lines a.image.now a.lines c.requires.image_value)
 
 pub returns : goal.returns
 returns c =
