@@ -1,6 +1,6 @@
 -- `list_accepted` meets its contract: the pieces of the text stand one after the other.
 use Prim.Native.Nat.{◌+◌, ◌≤◌}
-use mathlib.Core.Path.{◌≡◌, refl, ◌∙◌}
+use mathlib.Core.Path.{◌≡◌, refl}
 use borrow.Author.Rules.{rules}
 use native.Mathlib.Omega.{arith}
 use lib.ListN.{length}
@@ -28,14 +28,11 @@ overflow_add-bytes-2 c = omega (arith, sized (goal.at.overflow_add-bytes-2 c).Af
 
 pub returns-then-text-bytes : goal.returns-then-text-bytes
 returns-then-text-bytes c =
-    let a = c.args in
-    let t = listed-short (text_by a.image.now (walk a.image.now)) a.text.now
-    (omega (arith, sized (goal.at.returns-then-text-bytes c).After-decimal_len)) in
-    record { value = t.0; text_after = t.1 }
+    listed-short (text_by c.args.image.now (walk c.args.image.now)) c.args.text.now
+    (omega (arith, sized (goal.at.returns-then-text-bytes c).After-decimal_len))
 
 pub returns : goal.returns
 returns c =
     let all = wrote_then (wrote_then (wrote_then c.put.ensures c.put_lines.ensures) c.put_decimal.ensures) c.put-2.ensures in
     let same = all.same in
-    let t = listed-written refl all (measured-pieces c.args.image.now c.args.lines c.requires.image_value) in
-    record { value = t.0; text_after = search rules ∙ t.1 }
+    listed-written refl all (measured-pieces c.args.image.now c.args.lines c.requires.image_value) (search rules)
