@@ -4,7 +4,7 @@ use mathlib.Core.Path.{◌≡◌, ap, refl, sym, subst, ◌∙◌}
 use mathlib.Core.Logic.{◌≢◌, ◌↔◌}
 use mathlib.Core.List.{List, ◌∷◌}
 use native.Mathlib.Omega.{arith}
-use lib.ListN.{length, length as len}
+use lib.ListN.{length, length as len, take, drop}
 use native.Mathlib.Decide.{dec_le, ℕ_discrete}
 use Rattle.lists.specs.Bytes.{AllBytes}
 use Rattle.lists.proofs.Tests.{clash}
@@ -19,6 +19,7 @@ use Rattle.std.specs.Prelude.{⊤, Ok, Err}
 use Rattle.header.specs.Checksum.{sum, sumcheck, fold}
 use Rattle.header.specs.Header.{byte_at, name_at, header_at, bytes_of, covered_bytes, first_broken, validity_of, validity_at, Validity, validity_answer}
 use Rattle.header.specs.Rules.{blocks_at, checksum_at, Sound, Breaks, two, three, four, HeaderRow, is-sound, is-two, is-three, is-four}
+use Rattle.header.proofs.SumLaws.{name-part}
 use Rattle.header.proofs.ChecksumLaws.{closed-form, closed-zeros, sum-covered}
 use Rattle.header.proofs.ValidityLaws.{zero-length, past_end, checksum-differs, no-rule-broken, cut_off, zero_test, zero-test-idle}
 
@@ -100,12 +101,21 @@ module _ (image : List ℕ) (at : ℕ) where
     unfolding checksum_at
     sum-read = ap sumcheck covered-read ∙ closed-form _ (byte 0, (byte 2, (byte 3, name-bytes)))
 
-    -- the same of the sum of the whole header's bytes, less the stored checksum
-    pub checksum-whole : (n r : ℕ)
+    -- the same of what is read of a whole header
+    pub checksum-whole : at + 16 ≤ length image → (n s r : ℕ) (l : Blocks) → n ≡ sum (take (at + 16 - (at + 4)) (drop (at + 4) image))
+        → s ≡ (header_at image at).signature → l ≡ (header_at image at).length
+        → r ≡ fold (fold (n + s + l.0 / 256 % 256 + l.0 % 256)) → r ≡ sumcheck (covered_bytes (header_at image at))
+    unfolding header_at
+    checksum-whole h n s r l en es el er =
+        sum-covered (header_at image at) (byte 0) name-bytes name-length n s r (en ∙ ap sum (name-part image at h)) es
+        (er ∙ (λ i. fold (fold (n + s + (el i).0 / 256 % 256 + (el i).0 % 256))))
+
+    -- the same of the sum of all its bytes, less the stored checksum
+    pub checksum-less : (n r : ℕ)
         → n + byte_at image at 1 ≡ byte_at image at 0 + (byte_at image at 1 + (byte_at image at 2 + (byte_at image at 3 + sum (name_at image at))))
         → r ≡ fold (fold n) → r ≡ sumcheck (covered_bytes (header_at image at))
     unfolding header_at
-    checksum-whole n r en er =
+    checksum-less n r en er =
         let b2 = byte 2 in
         let b3 = byte 3 in
         let e : n ≡ sum (name_at image at) + byte_at image at 0 + (byte_at image at 2 * 256 + byte_at image at 3) / 256 % 256

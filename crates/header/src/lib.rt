@@ -4,9 +4,9 @@
 ghost use Rattle.std.specs.Prelude.{◌≡◌, ℕ, ◌+◌, ◌*◌, ◌/◌, ◌%◌, ◌≤◌, ◌<◌, length as len, take, drop, get_or, sum, MatchOption};
 ghost use Rattle.lists.specs.Bytes.{AllBytes};
 ghost use Rattle.header.specs.Checksum.{sumcheck, fold};
-ghost use Rattle.header.specs.Header.{bytes_of, byte_at, header_at, covered_bytes, fits_header, sealed, first_broken, validity_of, validity_at};
+ghost use Rattle.header.specs.Header.{bytes_of, byte_at, header_at, covered_bytes, fits_header, sealed, first_broken, validity_of, validity_at, validity_answer};
 
-use errors::{Error, HeaderFault};
+use errors::{Answer, Error, HeaderFault};
 use std::array;
 
 // A length in blocks, as a header holds it.
@@ -125,6 +125,13 @@ impl Header {
             }
             None => first_broken(Header::length_at(image, at), 0, 0, at, room),
         }
+    }
+
+    // What a caller sees of the header at an offset: code 0, or that of the first rule that it breaks, and its offset.
+    pub fn answer_at(image: &[u8], at: usize) -> Answer<()>
+        ensures { result ≡ validity_answer (validity_at image.now at) }
+    {
+        Header::check_at(image, at).into()
     }
 
     // The checksum of the 15 bytes of signature, length and name.

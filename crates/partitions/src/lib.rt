@@ -4,8 +4,9 @@
 ghost use Rattle.std.specs.Prelude.{◌≡◌};
 ghost use Rattle.partitions.specs.Walk.{allowed_length, step_at};
 ghost use Rattle.partitions.specs.Find.{check_of, index_of};
+ghost use Rattle.partitions.specs.Views.{step_answer};
 
-use errors::Error;
+use errors::{Answer, Error};
 use header::{Blocks, Header};
 
 // The greatest length of an image in bytes: 65,536 blocks.
@@ -60,6 +61,13 @@ impl Cursor {
         };
         let next = Cursor { at: at + bytes.0 };
         Ok(Some(Step { here, next }))
+    }
+
+    // What a caller sees of the step from here: code 0 and the step, none at the end, or the error's code and offset.
+    pub fn answer(self, image: &[u8]) -> Answer<Option<Step>>
+        ensures { result ≡ step_answer (step_at image.now self.at) }
+    {
+        self.step(image).into()
     }
 }
 

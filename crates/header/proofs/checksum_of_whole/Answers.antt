@@ -2,7 +2,7 @@
 use Rattle.std.proofs.Common.{◌-◌, arith}
 use Rattle.header.proofs.SumLaws.{sum-plain, header-sum}
 use Rattle.header.proofs.ChecksumLaws.{sum_bound}
-use Rattle.header.proofs.RuleLaws.{checksum-whole}
+use Rattle.header.proofs.RuleLaws.{checksum-less}
 use Rattle.header.proofs.checksum_of_whole.Goals as goal
 
 pub overflow_sub-sum_bytes : goal.overflow_sub-sum_bytes
@@ -19,6 +19,6 @@ fold_twice-requires c =
 pub returns : goal.returns
 returns c =
     let bytes = c.args.bytes.now in
-    checksum-whole bytes 0 c.sum_bytes.ensures.bytes (c.sum_bytes.result - c.from.result) c.fold_twice.result
+    checksum-less bytes 0 c.sum_bytes.ensures.bytes (c.sum_bytes.result - c.from.result) c.fold_twice.result
     (omega (arith, c.sum_bytes.ensures.value, sum-plain bytes, header-sum bytes c.told-bytes, c.from.ensures))
     c.fold_twice.ensures
