@@ -21,8 +21,7 @@ use Rattle.partitions.specs.Find.{area_of}
 use Rattle.partitions.specs.Cover.{area_at}
 use Rattle.partitions.proofs.CoverLaws.{check-accepts}
 use Rattle.partitions.proofs.FrameLaws.{among-area, pasted-kept, area-new, area-bytes}
-use Rattle.names.specs.Name.{good}
-use Rattle.names.specs.Name.{name_check}
+use Rattle.names.specs.Name.{good, name_check}
 use Rattle.names.specs.Rules.{NameRule}
 use Rattle.names.proofs.NameLaws.{check-good-exactly, split-check}
 use Rattle.values.proofs.EncodeLaws.{encode-shortest}
@@ -37,8 +36,7 @@ use Rattle.variables.specs.Rules.{Holds}
 use Rattle.variables.specs.Calls.{set_to, read_into, set, read, call_check, done, Outcome, refuse, call_area}
 use Rattle.variables.proofs.EditLaws.{length-area, parse-area, lookup-none, lookup-next, good-set, lookup-set}
 use Rattle.variables.proofs.LookupLaws.{found-exactly}
-use Rattle.variables.proofs.CallLaws.{check-named, split-parse, split-room, call-misnamed, call-faulty, call-parsed, set-short}
-use Rattle.variables.proofs.CallLaws.{set-done as set-outcome, read_done}
+use Rattle.variables.proofs.CallLaws.{check-named, split-parse, split-room, call-misnamed, call-faulty, call-parsed, set-short, set-done as set-outcome, read_done}
 use Rattle.nvram.specs.Common.{OnlyCommon, common_of}
 use Rattle.nvram.specs.Calls.{Told, told_at, ImageOutcome, call_image}
 use Rattle.nvram.proofs.CommonLaws.{split-found, common-exactly, common-among, common-kept}

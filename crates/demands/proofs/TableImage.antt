@@ -13,16 +13,13 @@ use Rattle.errors.specs.Errors.{header_code, code_of, offset_of}
 use Rattle.header.specs.Rules.{Breaks}
 use Rattle.partitions.specs.declared.Partition.{Partition}
 use Rattle.std.specs.Prelude.{Result, Ok, Err}
-use Rattle.partitions.specs.Find.{Found}
-use Rattle.std.specs.Prelude.{Ok, Err}
-use Rattle.partitions.specs.Find.{check_of, index_of, find_of}
+use Rattle.partitions.specs.Find.{Found, check_of, index_of, find_of}
 use Rattle.partitions.specs.Cover.{Rejected, PartitionCount, FirstNamed, NotNamed, rejected, second, absent, Indexed, NotIndexed, area_at}
 use Rattle.partitions.proofs.CoverLaws.{check-accepts, check-refuses}
 use Rattle.partitions.proofs.FoundLaws.{find_first, find-refuses, index_at, index-refuses}
 use Rattle.partitions.proofs.AreaLaws.{found_among, area-refused}
 use Rattle.partitions.proofs.FrameLaws.{among-area}
-use Rattle.names.specs.Name.{good, wrong}
-use Rattle.names.specs.Name.{name_check}
+use Rattle.names.specs.Name.{good, wrong, name_check}
 use Rattle.names.specs.Rules.{FirstWrong}
 use Rattle.names.proofs.NameLaws.{check-good-exactly, check-wrong-exactly}
 use Rattle.variables.specs.Calls.{Call, named, normalize, count, call_check}

@@ -37,8 +37,7 @@ use Rattle.demands.specs.Table.{WellNamed, by_name, AtPair, Answers}
 use Rattle.demands.specs.Library.{seen}
 use Rattle.demands.specs.Demands.{CallBytes, RequestBytes}
 use Rattle.demands.proofs.ModelLaws.{count_entries}
-use Rattle.demands.proofs.TableImage.{named-well, eleven-row, misnamed-seen, refused-call, unfound-row, check-row, partition-row}
-use Rattle.demands.proofs.TableImage.{find-row, area-row}
+use Rattle.demands.proofs.TableImage.{named-well, eleven-row, misnamed-seen, refused-call, unfound-row, check-row, partition-row, find-row, area-row}
 use Rattle.demands.proofs.TablePlaces.{pasted-holding}
 use Rattle.demands.proofs.TableSeen.{CommonAt, seen_outcome, common-bytes, edit-becomes, call-seen, refuse-seen, answer-seen}
 

@@ -1,8 +1,7 @@
 -- The three demands as statements; proofs/ proves them for every image, request and list of calls.
-use Rattle.std.specs.Prelude.{ℕ, ◌≤◌, ◌≡◌, List, [], ◌∷◌, ◌≢◌, ◌⊎◌, ◌↔◌, length, take}
+use Rattle.std.specs.Prelude.{ℕ, ◌≤◌, ◌≡◌, List, [], ◌∷◌, ◌≢◌, ◌⊎◌, ◌↔◌, length, take, Ok}
 use Rattle.lists.specs.Bytes.{AllBytes}
 use Rattle.partitions.specs.declared.Partition.{Partition}
-use Rattle.std.specs.Prelude.{Ok}
 use Rattle.partitions.specs.Find.{check_of}
 use Rattle.partitions.specs.Cover.{PartitionCount, area_at, OutsideKept}
 use Rattle.values.specs.Rules.{Spells, Canonical}

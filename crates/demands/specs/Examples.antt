@@ -1,18 +1,16 @@
 -- The examples of document 01 that are marked P, as one statement, E in literal bytes.
-use Rattle.std.specs.Prelude.{ℕ, ◌≡◌, refl, true, false, List, [], ◌∷◌, ◌++◌, take, drop, replicate}
+use Rattle.std.specs.Prelude.{ℕ, ◌≡◌, refl, true, false, List, [], ◌∷◌, ◌++◌, take, drop, replicate, Ok, Err}
 use Rattle.lists.specs.Bytes.{same_bytes, stands}
 use Rattle.lists.specs.Pasted.{pasted}
 use Rattle.header.specs.Checksum.{sum_from, sumcheck}
 use Rattle.header.specs.Header.{header_at, name_at, fits_header, validity_of, validity_at}
-use Rattle.std.specs.Prelude.{Ok, Err}
 use Rattle.errors.specs.declared.HeaderFault.TheVariants.{ZeroLength, PastEnd}
 use Rattle.errors.specs.declared.Error.TheVariants.{ImageLength, BadHeader}
 use Rattle.partition_name.specs.Name.{same_name, padded, matches_name}
 use Rattle.partitions.specs.Walk.{allowed_length, partition_of, past_of, step_at, walk_from, walk}
 use Rattle.partitions.specs.Find.{checked_by, check_of, matches, first_match, find_by, find_of, only_match, only_by, only_of, area_of}
 use Rattle.partitions.specs.Examples.{E, with_area, common_covered, free_covered}
-use Rattle.names.specs.Name.{good, wrong}
-use Rattle.names.specs.Name.{name_byte, name_check_from, name_check}
+use Rattle.names.specs.Name.{good, wrong, name_byte, name_check_from, name_check}
 use Rattle.values.specs.Value.{run_byte, run, decode_from, decode, mark, full_escapes, rest_escape, run_bytes, encode_from, encode}
 use Rattle.pairs.specs.Scan.{stored_name, scan_name, scan_value, pair, cut, wrong_name, stand_at}
 use Rattle.pairs.specs.Area.{pair_bytes, pairs_bytes, parse_from, parse}

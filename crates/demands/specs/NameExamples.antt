@@ -1,11 +1,10 @@
 -- Images in literal bytes whose partition names have bytes after their 0x00, and such whose names are nearly `common`.
-use Rattle.std.specs.Prelude.{ℕ, ◌≡◌, refl, List, [], ◌∷◌, ◌++◌, drop, replicate}
+use Rattle.std.specs.Prelude.{ℕ, ◌≡◌, refl, List, [], ◌∷◌, ◌++◌, drop, replicate, Ok, Err}
 use Rattle.lists.specs.Bytes.{same_bytes, stands}
 use Rattle.lists.specs.Pasted.{pasted}
 use Rattle.header.specs.Checksum.{sum_from}
 use Rattle.header.specs.Header.{header_at, name_at, validity_of, validity_at}
 use Rattle.partitions.specs.declared.Partition.{Partition}
-use Rattle.std.specs.Prelude.{Ok, Err}
 use Rattle.errors.specs.declared.HeaderFault.TheVariants.{Checksum}
 use Rattle.errors.specs.declared.Error.TheVariants.{BadHeader, NoPartition}
 use Rattle.partition_name.specs.Name.{same_name, padded, matches_name}

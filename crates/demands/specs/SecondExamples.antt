@@ -1,10 +1,9 @@
 -- Images in literal bytes with more than one `common`, and such with one or none beside partitions that are nearly `common`.
-use Rattle.std.specs.Prelude.{ℕ, ◌≡◌, refl, List, [], ◌∷◌, ◌++◌, take, drop, replicate}
+use Rattle.std.specs.Prelude.{ℕ, ◌≡◌, refl, List, [], ◌∷◌, ◌++◌, take, drop, replicate, Ok}
 use Rattle.lists.specs.Bytes.{same_bytes, stands}
 use Rattle.lists.specs.Pasted.{pasted}
 use Rattle.header.specs.Checksum.{sum_from}
 use Rattle.header.specs.Header.{header_at, name_at, validity_of, validity_at}
-use Rattle.std.specs.Prelude.{Ok}
 use Rattle.partition_name.specs.Name.{same_name, padded, matches_name}
 use Rattle.partitions.specs.Walk.{allowed_length, partition_of, past_of, step_at, walk_from, walk}
 use Rattle.partitions.specs.Find.{checked_by, check_of, at_index, index_by, index_of, matches, first_match, find_by, find_of, only_match, only_by, only_of, area_of}

@@ -9,16 +9,16 @@ module _ {T : Type 0} where
   abbrev pub done_answer : T → Answer T
   done_answer value = record { code = 0; offset = 0; value = value }
 
-  -- of one that is refused: the error's code and offset, and none for a value
+  -- of one that is refused: the error's code and offset, and a default for the value
   abbrev pub refused_answer : T → Error → Answer T
-  refused_answer none e = record { code = code_of e; offset = offset_of e; value = none }
+  refused_answer default e = record { code = code_of e; offset = offset_of e; value = default }
 
   -- of either
   abbrev pub answer_of : T → Result T Error → Answer T
-  answer_of none (Ok value) = done_answer value
-  answer_of none (Err e) = refused_answer none e
+  answer_of default (Ok value) = done_answer value
+  answer_of default (Err e) = refused_answer default e
 
-  -- the same, where none is a default of the values' type
+  -- the same, for any default of the values' type
   abbrev pub Shows : (T → Type 0) → Result T Error → Answer T → Type 0
   Shows is_default (Ok value) answer = answer ≡ done_answer value
-  Shows is_default (Err e) answer = (none : T) × is_default none × (answer ≡ refused_answer none e)
+  Shows is_default (Err e) answer = (default : T) × is_default default × (answer ≡ refused_answer default e)

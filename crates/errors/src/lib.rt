@@ -17,7 +17,7 @@ pub enum HeaderFault {
 }
 
 impl HeaderFault {
-    // The code that a caller sees.
+    // The code that a caller sees: a number, since C callers and the table of codes have numbers.
     pub fn code(self) -> u32
         ensures { result ≡ header_code self }
     {
@@ -39,7 +39,7 @@ pub enum AreaFault {
 }
 
 impl AreaFault {
-    // The code that a caller sees.
+    // The code that a caller sees: a number, since C callers and the table of codes have numbers.
     pub fn code(self) -> u32
         ensures { result ≡ area_code self }
     {
@@ -71,7 +71,7 @@ pub enum Error {
 }
 
 impl Error {
-    // The code that a caller sees.
+    // The code that a caller sees: a number, since C callers and the table of codes have numbers.
     pub fn code(self) -> u32
         ensures { result ≡ code_of self }
     {
@@ -106,7 +106,7 @@ impl Error {
     }
 }
 
-// What a caller sees of a result: code 0 and the value, or the error's code and offset and the value that stands for none.
+// What a caller sees of a result: code 0 and the value, or the error's code and offset and the type's default for a value.
 #[derive(Clone, Copy)]
 pub struct Answer<T> {
     pub code: u32,

@@ -13,12 +13,10 @@ use Rattle.header.proofs.SumLaws.{name-part}
 use Rattle.header.proofs.RuleLaws.{name-read}
 use Rattle.partition_name.specs.Name.{matches_name}
 use Rattle.partitions.specs.declared.Partition.{Partition}
-use Rattle.partitions.specs.Find.{Found}
-use Rattle.std.specs.Prelude.{Ok, Err}
-use Rattle.std.specs.Prelude.{Some}
+use Rattle.partitions.specs.Find.{Found, matches, first_match, find_by, only_unless, only_match, only_by}
+use Rattle.std.specs.Prelude.{Ok, Err, Some}
 use Rattle.partitions.specs.declared.Step.{Step}
 use Rattle.partitions.specs.Walk.{Walk, covered, broken, allowed_length, step_at, walk}
-use Rattle.partitions.specs.Find.{matches, first_match, find_by, only_unless, only_match, only_by}
 use Rattle.partitions.proofs.WalkLaws.{rest, walk-rest, walk_refused, on_walk}
 use Rattle.partitions.proofs.LoopLaws.{next-goes}
 use Rattle.partitions.proofs.FoundLaws.{matches-signed, matches-other, find-walk, find-covered, find-broken, match-nothing, match-head, match-tail}

@@ -50,7 +50,7 @@ impl Matched {
     {
         match self {
             Matched::None => Matched::One(p),
-            Matched::One(_first) => Matched::Second { at: p.offset },
+            Matched::One(_) => Matched::Second { at: p.offset },
             Matched::Second { at } => Matched::Second { at },
         }
     }
@@ -68,6 +68,7 @@ impl Matched {
 }
 
 // A search for this signature and a name that matches this one, for the first partition or for the only one: what matches.
+// A closure for whether one more match counts would say no more than the flag `only`.
 fn seek(image: &[u8], signature: u8, name: &[u8], only: bool) -> Result<Matched, Error>
     ensures { searched_found result ≡ seek_of only image.now signature name.now }
 {
@@ -76,6 +77,7 @@ fn seek(image: &[u8], signature: u8, name: &[u8], only: bool) -> Result<Matched,
     }
     let mut cursor = Cursor::start();
     let mut matched = Matched::None;
+    // The form of a walk that the paper names.
     loop {
         match cursor.step(image) {
             Ok(Some(step)) => {
@@ -108,7 +110,7 @@ pub fn find_only(image: &[u8], signature: u8, name: &[u8]) -> Result<Partition, 
     seek(image, signature, name, true)?.found()
 }
 
-// The data area of the first such partition, as a part of the image.
+// The data area of the partition that `find` answers, as a part of the image.
 pub fn area<'a>(image: &'a [u8], signature: u8, name: &[u8]) -> Result<&'a [u8], Error>
     ensures { result_map_both (λ part. part.now) (λ e. e) result ≡ area_found image.now (find_of image.now signature name.now) }
 {

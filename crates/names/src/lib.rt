@@ -71,7 +71,7 @@ pub fn name_end(s: &[u8], from: usize) -> usize
     }
 }
 
-// The check of a name by the allowed bytes at its start; `whole`: it has no other byte.
+// The check of a name by the allowed bytes at its start; `whole`: it has no other byte, which no number of bytes tells.
 pub fn check_by_allowed(allowed: usize, whole: bool) -> Result<(), NameFault>
     ensures { result ≡ check_by_allowed allowed whole }
 {

@@ -33,6 +33,7 @@ fn normalize_pairs(area: &mut [u8]) -> usize
     ensures value { result ≡ length (normalized_bytes (parse area.old)) }
     ensures area_after { area.new ≡ pasted area.old 0 (normalized_bytes (parse area.old)) }
 {
+    // The pairs are rewritten as they are gone over, so that no iterator can hold the area.
     let mut at = 0;
     let mut to = 0;
     while let Ok(Some(pair)) = pairs::pair_at(area, at) {

@@ -16,9 +16,8 @@ use Rattle.names.proofs.NameLaws.{split-check}
 use Rattle.header.specs.declared.Bytes.{Bytes}
 use Rattle.header.specs.Header.{bytes_of}
 use Rattle.partitions.specs.declared.Partition.{Partition}
-use Rattle.partitions.specs.Find.{Found}
+use Rattle.partitions.specs.Find.{Found, only_of, area_of}
 use Rattle.std.specs.Prelude.{⊤, Result, Ok, Err}
-use Rattle.partitions.specs.Find.{only_of, area_of}
 use Rattle.partitions.proofs.AreaLaws.{among-inside, area-part}
 use Rattle.variables.specs.Calls.{Action, set_to, removal, read_into, Call, named, set, remove, normalize, read, count, lent_by, lent, call_check, Outcome, call_area}
 use Rattle.variables.specs.Helpers.{reply_offset}

@@ -6,9 +6,8 @@ use mathlib.Core.Logic.{◌↔◌}
 use Rattle.lists.specs.Bytes.{AllBytes}
 use Rattle.errors.specs.declared.Error.{Error}
 use Rattle.partitions.specs.declared.Partition.{Partition}
-use Rattle.partitions.specs.Find.{Found}
+use Rattle.partitions.specs.Find.{Found, only_of}
 use Rattle.std.specs.Prelude.{Ok, Err}
-use Rattle.partitions.specs.Find.{only_of}
 use Rattle.partitions.specs.Cover.{OutsideKept}
 use Rattle.partitions.proofs.OnlyLaws.{only-found, only-exactly, only-refuses}
 use Rattle.partitions.proofs.AreaLaws.{Among, found_among}

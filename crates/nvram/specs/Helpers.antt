@@ -17,7 +17,7 @@ area_span (Err e) = Err e
 abbrev pub name_first : NameCheck → Error → Error
 name_first check e = on_check check e BadName
 
--- the same, where 11 goes before why there is none
+-- where it stands for a call that takes a name: 11 goes before the error of an image that has no such area
 unfoldable pub named_span : NameCheck → Found → Result Span Error
 named_span check (Ok p) = area_span (Ok p)
 named_span check (Err e) = Err (name_first check e)
@@ -28,7 +28,7 @@ module _ {T : Type 0} where
   error_offset (Ok value) = 0
   error_offset (Err e) = offset_of e
 
-  -- an answer of a call on an area that begins at n
+  -- an answer of a call on an area that begins at n, as an answer on the image
   abbrev pub answer_moved : ℕ → Result T Error → Result T Error
   answer_moved n (Ok value) = Ok value
   answer_moved n (Err e) = Err (moved n e)

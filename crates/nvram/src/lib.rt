@@ -26,7 +26,7 @@ pub use lookup::area;
 // The signature of the partition that holds the variables.
 const SIGNATURE: u8 = 0x70;
 
-// Where the variable area stands in an image.
+// Where the variable area stands in an image. A range would have to be cloned, since its start is used after it.
 #[derive(Clone, Copy)]
 struct Span {
     start: usize,
@@ -113,7 +113,7 @@ pub fn normalize(image: &mut [u8]) -> Result<(), Error>
     ensures result_value { edit_told result ≡ (call_image Calls.normalize image.old).told }
     ensures image_after { image.new ≡ (call_image Calls.normalize image.old).image }
 {
-    let area = common_area(image)?;
+    let area = common_area(image)?; // there is no name to check
     let answer = normalization::normalize(&mut image[area.start..area.end]);
     moved(answer, area.start)
 }

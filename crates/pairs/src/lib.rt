@@ -131,6 +131,7 @@ pub fn scan(area: &[u8], name: &[u8]) -> Result<Scanned, Error>
     let mut at = 0;
     let mut count = 0;
     let mut place = None;
+    // The paper names this form: the name comparison nested in the pair scan, and left by a label.
     'pairs: loop {
         let seen = pair_at(area, at);
         let Ok(Some(pair)) = seen else {

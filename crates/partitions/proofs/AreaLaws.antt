@@ -14,13 +14,10 @@ use Rattle.errors.specs.declared.Error.{Error}
 use Rattle.header.specs.Header.{header_at, bytes_of, validity_at}
 use Rattle.header.proofs.ValidityLaws.{valid-nonzero, valid-fits}
 use Rattle.partitions.specs.declared.Partition.{Partition}
-use Rattle.partitions.specs.Walk.{Stepped}
+use Rattle.partitions.specs.Walk.{Stepped, partition_of, past_of, step_at, Walk, covered, broken, first, on_step, walk_from, allowed_length, walk}
 use Rattle.std.specs.Prelude.{Ok, Err, Some, None}
-use Rattle.partitions.specs.Find.{Found}
-use Rattle.std.specs.Prelude.{Ok, Err}
-use Rattle.partitions.specs.Walk.{partition_of, past_of, step_at, Walk, covered, broken, first, on_step, walk_from, allowed_length, walk}
+use Rattle.partitions.specs.Find.{Found, first_match, find_by, find_of, area_of}
 use Rattle.partitions.specs.Cover.{partition_at, area_at}
-use Rattle.partitions.specs.Find.{first_match, find_by, find_of, area_of}
 use Rattle.partitions.proofs.WalkLaws.{View, ends, goes, breaks, view}
 use Rattle.partitions.proofs.FoundLaws.{Match, found, missing, match}
 

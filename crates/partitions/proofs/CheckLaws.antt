@@ -8,9 +8,8 @@ use lib.ListN.{length}
 use Rattle.errors.specs.declared.Error.{Error}
 use Rattle.errors.specs.declared.Error.TheVariants.{ImageLength}
 use Rattle.partitions.specs.declared.Partition.{Partition}
-use Rattle.std.specs.Prelude.{Ok, Err, Some, None}
+use Rattle.std.specs.Prelude.{Ok, Err, Some, None, Result}
 use Rattle.partitions.specs.declared.Step.{Step}
-use Rattle.std.specs.Prelude.{Result, Ok, Err}
 use Rattle.partitions.specs.Walk.{step_at, Walk, covered, broken, allowed_length}
 use Rattle.partitions.specs.Find.{checked_by, check_of}
 use Rattle.partitions.proofs.WalkLaws.{rest, walk-rest, walk_refused, next-bounds, on_walk, loop-next, loop-end, loop-broken}

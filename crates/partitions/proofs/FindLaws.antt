@@ -8,10 +8,9 @@ use lib.ListN.{length}
 use Rattle.errors.specs.declared.Error.TheVariants.{ImageLength, NoPartition}
 use Rattle.std.specs.Option.{option_or, ok_or}
 use Rattle.partitions.specs.declared.Partition.{Partition}
-use Rattle.partitions.specs.Find.{Found}
+use Rattle.partitions.specs.Find.{Found, at_index, index_by, index_of}
 use Rattle.std.specs.Prelude.{Option, Some, None, Ok, Err}
 use Rattle.partitions.specs.Walk.{Walk, covered, broken, allowed_length}
-use Rattle.partitions.specs.Find.{at_index, index_by, index_of}
 use Rattle.partitions.proofs.WalkLaws.{rest, walk-rest, walk_refused, on_walk}
 
 -- n partitions are to be passed

@@ -18,10 +18,9 @@ use Rattle.partition_name.specs.Rules.{MatchesName}
 use Rattle.partition_name.specs.Name.{matches_name}
 use Rattle.partition_name.proofs.MatchLaws.{matches-exactly}
 use Rattle.partitions.specs.declared.Partition.{Partition}
-use Rattle.partitions.specs.Find.{Found}
+use Rattle.partitions.specs.Find.{Found, matches, first_match, find_by, find_of, at_index, index_by, index_of}
 use Rattle.std.specs.Prelude.{Ok, Err}
 use Rattle.partitions.specs.Walk.{Walk, covered, broken, walk}
-use Rattle.partitions.specs.Find.{matches, first_match, find_by, find_of, at_index, index_by, index_of}
 use Rattle.partitions.specs.Cover.{Accepted, Rejected, Named, NoneNamed, FirstNamed, Indexed, NotNamed, NotIndexed}
 use Rattle.partitions.proofs.CoverLaws.{Walked, accepts, rejects, walked, accepted-exactly, rejected-exactly}
 

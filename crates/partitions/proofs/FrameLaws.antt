@@ -13,19 +13,14 @@ use Rattle.lists.proofs.Tests.{split, clash}
 use Rattle.lists.proofs.ByteLaws.{every_drop, every_take}
 use Rattle.lists.proofs.PastedLaws.{length-pasted, take-pasted-before, drop-pasted-after, drop-pasted-at, bytes-pasted}
 use Rattle.header.specs.declared.Blocks.{Blocks}
-use Rattle.header.specs.Header.{Validity}
-use Rattle.header.specs.Header.{header_at, bytes_of, validity_at}
+use Rattle.header.specs.Header.{Validity, header_at, bytes_of, validity_at}
 use Rattle.header.specs.Rules.{blocks_at}
 use Rattle.header.proofs.RuleLaws.{blocks-read}
 use Rattle.header.proofs.SameLaws.{header-before, header-after, blocks-same, validity-same}
 use Rattle.partitions.specs.declared.Partition.{Partition}
-use Rattle.partitions.specs.Walk.{Stepped}
+use Rattle.partitions.specs.Walk.{Stepped, onward, partition_of, past_of, step_at, Walk, covered, broken, first, on_step, walk_from, allowed_length, walk}
 use Rattle.std.specs.Prelude.{Ok, Err, Some, None}
-use Rattle.partitions.specs.Walk.{onward}
-use Rattle.partitions.specs.Find.{Found}
-use Rattle.std.specs.Prelude.{Ok, Err}
-use Rattle.partitions.specs.Walk.{partition_of, past_of, step_at, Walk, covered, broken, first, on_step, walk_from, allowed_length, walk}
-use Rattle.partitions.specs.Find.{matches, first_match, only_unless, only_match, only_by, only_of, area_of}
+use Rattle.partitions.specs.Find.{Found, matches, first_match, only_unless, only_match, only_by, only_of, area_of}
 use Rattle.partitions.specs.Cover.{past_at, area_at, OutsideKept}
 use Rattle.partitions.proofs.WalkLaws.{View, ends, goes, breaks, view, past-bounds}
 use Rattle.partitions.proofs.AreaLaws.{Among, among-inside, area-long, area-back}

@@ -13,12 +13,9 @@ use Rattle.errors.specs.declared.Error.TheVariants.{ImageLength, BadHeader}
 use Rattle.header.specs.Header.{header_at, validity_at}
 use Rattle.header.proofs.ValidityLaws.{valid-nonzero, invalid-here}
 use Rattle.partitions.specs.declared.Partition.{Partition}
-use Rattle.partitions.specs.Walk.{Stepped}
+use Rattle.partitions.specs.Walk.{Stepped, onward, step_at, partition_of, past_of, Walk, covered, broken, first, walk, allowed_length}
 use Rattle.std.specs.Prelude.{Ok, Err, Some, None}
 use Rattle.partitions.specs.declared.Step.{Step}
-use Rattle.partitions.specs.Walk.{onward}
-use Rattle.std.specs.Prelude.{Ok, Err}
-use Rattle.partitions.specs.Walk.{step_at, partition_of, past_of, Walk, covered, broken, first, walk, allowed_length}
 use Rattle.partitions.specs.Find.{checked_by, check_of}
 use Rattle.partitions.specs.Cover.{partition_at}
 use Rattle.partitions.proofs.WalkLaws.{View, ends, goes, breaks, view, past-bounds, rest, walk-rest, walk_refused, rest-by-steps}

@@ -9,14 +9,12 @@ use Rattle.lists.proofs.Tests.{split, clash}
 use Rattle.errors.specs.declared.Error.{Error}
 use Rattle.errors.specs.declared.Error.TheVariants.{NoPartition, RepeatedPartition}
 use Rattle.partitions.specs.declared.Partition.{Partition}
-use Rattle.partitions.specs.Find.{Found}
+use Rattle.partitions.specs.Find.{Found, matches, first_match, find_by, find_of, only_unless, only_match, only_by, only_of}
 use Rattle.std.specs.Prelude.{Ok, Err}
 use Rattle.partitions.specs.Walk.{Walk, covered, broken, walk}
-use Rattle.partitions.specs.Find.{matches, first_match, find_by, find_of, only_unless, only_match, only_by, only_of}
 use Rattle.partitions.specs.Cover.{Accepted, Named, NoneNamed, OnlyNamed, SecondNamed, NotOnly, rejected, second, absent}
 use Rattle.partitions.proofs.CoverLaws.{Walked, accepts, rejects, walked, accepted-exactly, rejected-exactly}
-use Rattle.partitions.proofs.FoundLaws.{named-matches, matches-named, not-matches, match-head, match-tail}
-use Rattle.partitions.proofs.FoundLaws.{Match, found, missing, match, match-first, match_none}
+use Rattle.partitions.proofs.FoundLaws.{named-matches, matches-named, not-matches, match-head, match-tail, Match, found, missing, match, match-first, match_none}
 
 module _ (image : List ℕ) (signature : ℕ) (name : List ℕ) where
   -- by the walk

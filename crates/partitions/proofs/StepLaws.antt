@@ -7,13 +7,10 @@ use borrow.Author.Tests.{le-leb, lt-leb}
 use Rattle.header.specs.declared.Blocks.{Blocks}
 use Rattle.header.specs.declared.Bytes.{Bytes}
 use Rattle.errors.specs.declared.Error.{Error}
-use Rattle.header.specs.Header.{Validity}
-use Rattle.header.specs.Header.{header_at, bytes_of, validity_at}
+use Rattle.header.specs.Header.{Validity, header_at, bytes_of, validity_at}
 use Rattle.header.proofs.ValidityLaws.{valid-fits}
-use Rattle.partitions.specs.Walk.{Stepped}
+use Rattle.partitions.specs.Walk.{Stepped, onward, step_at, step_by, partition_of, past_of}
 use Rattle.std.specs.Prelude.{Ok, Err, Some, None}
-use Rattle.partitions.specs.Walk.{onward}
-use Rattle.partitions.specs.Walk.{step_at, step_by, partition_of, past_of}
 
 module _ (image : List ℕ) (at : ℕ) where
   pub step_end : length image ≤ at → step_at image at ≡ Ok None

@@ -12,13 +12,11 @@ use Rattle.errors.specs.declared.Error.TheVariants.{BadHeader}
 use Rattle.header.specs.Rules.{Sound, Breaks}
 use Rattle.header.proofs.ValidityLaws.{invalid-here}
 use Rattle.header.proofs.RuleLaws.{valid-exactly, invalid-exactly, sound-valid, breaks-invalid}
-use Rattle.partitions.specs.Walk.{Stepped}
+use Rattle.partitions.specs.Walk.{Stepped, onward, step_at}
 use Rattle.std.specs.Prelude.{Ok, Err, Option, Some, None}
 use Rattle.partitions.specs.declared.Step.{Step}
-use Rattle.partitions.specs.Walk.{onward}
 use Rattle.errors.specs.declared.Answer.{Answer}
 use Rattle.errors.specs.Answer.{refused_answer}
-use Rattle.partitions.specs.Walk.{step_at}
 use Rattle.partitions.specs.Views.{step_answer}
 use Rattle.partitions.specs.Cover.{partition_at, past_at, StepRow, shows, ends, step-two, step-three, step-four}
 use Rattle.partitions.proofs.StepLaws.{step_end, step-next, step-broken}

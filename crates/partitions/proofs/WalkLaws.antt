@@ -10,15 +10,12 @@ use lib.ListN.{length}
 use Rattle.lists.proofs.Tests.{clash}
 use Rattle.errors.specs.declared.Error.{Error}
 use Rattle.errors.specs.declared.Error.TheVariants.{ImageLength}
-use Rattle.header.specs.Header.{Validity}
-use Rattle.header.specs.Header.{header_at, validity_at}
+use Rattle.header.specs.Header.{Validity, header_at, validity_at}
 use Rattle.header.proofs.ValidityLaws.{valid-nonzero, valid-fits}
 use Rattle.partitions.specs.declared.Partition.{Partition}
-use Rattle.partitions.specs.Walk.{Stepped}
+use Rattle.partitions.specs.Walk.{Stepped, onward, step_at, partition_of, past_of, Walk, covered, broken, first, on_step, walk_from, walk, allowed_length}
 use Rattle.std.specs.Prelude.{Ok, Err, Some, None}
 use Rattle.partitions.specs.declared.Step.{Step}
-use Rattle.partitions.specs.Walk.{onward}
-use Rattle.partitions.specs.Walk.{step_at, partition_of, past_of, Walk, covered, broken, first, on_step, walk_from, walk, allowed_length}
 use Rattle.partitions.proofs.StepLaws.{step_end, step-next, step-broken}
 
 -- the three outcomes of a step, with what holds at each

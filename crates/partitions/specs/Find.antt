@@ -80,7 +80,7 @@ unfoldable pub area_of : List ℕ → Found → List ℕ
 area_of image (Ok p) = take ((bytes_of p.blocks).0 - 16) (drop (p.offset + 16) image)
 area_of image (Err e) = []
 
--- the same, or the error
+-- the data area of the partition that was found, or the error
 abbrev pub area_found : List ℕ → Found → Result (List ℕ) Error
 area_found image (Ok p) = Ok (area_of image (Ok p))
 area_found image (Err e) = Err e

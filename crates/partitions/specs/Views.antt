@@ -1,4 +1,4 @@
--- What a caller sees of each answer: code 0 and the value, or the error's code and offset, and the value that stands for none.
+-- What a caller sees of each answer: code 0 and the value, or the error's code and offset, and the type's default for a value.
 use Rattle.std.specs.Prelude.{ℕ, Option, None, Result}
 use Rattle.errors.specs.declared.Error.{Error}
 use Rattle.errors.specs.declared.Answer.{Answer}

@@ -3,8 +3,7 @@ use Rattle.std.specs.Prelude.{ℕ, zero, suc, ◌+◌, ◌%◌, Bool, ◌&&◌, 
 use Rattle.errors.specs.declared.Error.{Error}
 use Rattle.errors.specs.declared.HeaderFault.TheVariants.{PastEnd}
 use Rattle.errors.specs.declared.Error.TheVariants.{ImageLength, BadHeader}
-use Rattle.header.specs.Header.{Validity}
-use Rattle.header.specs.Header.{header_at, validity_at, bytes_of}
+use Rattle.header.specs.Header.{Validity, header_at, validity_at, bytes_of}
 use Rattle.partitions.specs.declared.Partition.{Partition}
 use Rattle.partitions.specs.declared.Step.{Step}
 

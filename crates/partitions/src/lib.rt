@@ -88,6 +88,7 @@ pub fn check(image: &[u8]) -> Result<usize, Error>
     }
     let mut cursor = Cursor::start();
     let mut count: usize = 0;
+    // The paper names this form of a walk: a cursor by value, and a loop that yields its answer by a break.
     loop {
         match cursor.step(image) {
             Ok(Some(step)) => {
@@ -110,6 +111,7 @@ pub fn by_index(image: &[u8], index: usize) -> Result<Partition, Error>
     let mut cursor = Cursor::start();
     let mut left = index;
     let mut found = None;
+    // The form of a walk that the paper names.
     loop {
         match cursor.step(image) {
             Ok(Some(step)) => {

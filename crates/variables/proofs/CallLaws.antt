@@ -17,8 +17,7 @@ use Rattle.pairs.specs.Area.{Pair, pairs_bytes, Parse, parsed, faulty, parse}
 use Rattle.variables.specs.Edits.{area_bytes, set_pair, remove_pair, normalize_pairs, Lookup, found, missing, lookup}
 use Rattle.pairs.proofs.FaultLaws.{fault-inside}
 use Rattle.variables.specs.Helpers.{reply_offset}
-use Rattle.variables.specs.Calls.{Action, set_to, removal, read_into, Call, named, set, remove, normalize, read, count}
-use Rattle.variables.specs.Calls.{call_check, done, Outcome, refuse, edited, set_in, call_pairs, call_by, call_area}
+use Rattle.variables.specs.Calls.{Action, set_to, removal, read_into, Call, named, set, remove, normalize, read, count, call_check, done, Outcome, refuse, edited, set_in, call_pairs, call_by, call_area}
 
 -- ---- the caller's name
 

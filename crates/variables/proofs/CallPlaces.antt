@@ -24,8 +24,7 @@ use Rattle.pairs.specs.declared.Place.{Place}
 use Rattle.pairs.specs.Scan.{Stand, pair, finish, cut, wrong_name, wrong_escape, stand_at}
 use Rattle.pairs.specs.Area.{Pair, pairs_bytes, Parse, parsed, faulty, parse}
 use Rattle.variables.specs.Edits.{area_bytes, set_pair, found, missing, lookup}
-use Rattle.variables.specs.Calls.{Action, read_into, Call, named, set, count, read, lent, call_check, Reply, done}
-use Rattle.variables.specs.Calls.{refused, Outcome, refuse, edited, set_in, call_pairs, call_area}
+use Rattle.variables.specs.Calls.{Action, read_into, Call, named, set, count, read, lent, call_check, Reply, done, refused, Outcome, refuse, edited, set_in, call_pairs, call_area}
 use Rattle.variables.specs.Views.{amount_reply}
 use Rattle.pairs.specs.Helpers.{placed, scanned_of, on_find, find_from, find_at}
 use Rattle.variables.specs.Helpers.{named_scan}

@@ -1,8 +1,7 @@
 -- `normalization::normalize_pairs` meets its contract. The invariant: the pairs before `at` stand in canonical form from 0 up to `to`.
 use native.Mathlib.Omega.{arith}
 use Rattle.pairs.proofs.PairPlaces.{NoPair}
-use Rattle.normalization.proofs.NormalizeLaws.{normalizing-none, normalizing-more}
-use Rattle.normalization.proofs.NormalizeLaws.{normalizing-end, pair-moves, pair-further}
+use Rattle.normalization.proofs.NormalizeLaws.{normalizing-none, normalizing-more, normalizing-end, pair-moves, pair-further}
 use Rattle.normalization.proofs.normalize_pairs.Goals as goal
 
 pub loop-pair-init : goal.loop-pair-init

@@ -6,8 +6,7 @@ use Rattle.errors.proofs.Passed.{passed-on}
 use Rattle.pairs.proofs.PairPlaces.{NoPair, pair-seen}
 use Rattle.pairs.proofs.PairRuns.{walked_none, walked_more}
 use Rattle.pairs.proofs.JoinLaws.{walked-repeat, walked-fault, walked-done}
-use Rattle.pairs.proofs.FindPlaces.{finding-none, finding-end, finding-same, finding-next}
-use Rattle.pairs.proofs.FindPlaces.{other_length, compared-none, compared_same, compared-other, compared-all}
+use Rattle.pairs.proofs.FindPlaces.{finding-none, finding-end, finding-same, finding-next, other_length, compared-none, compared_same, compared-other, compared-all}
 use borrow.Author.Rules.{rules}
 use Rattle.pairs.proofs.scan.Goals as goal
 
