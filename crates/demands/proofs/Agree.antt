@@ -10,7 +10,7 @@ use Rattle.lists.specs.Pasted.{pasted}
 use Rattle.lists.proofs.Tests.{clash}
 use Rattle.lists.proofs.PastedLaws.{pasted-first}
 use Rattle.errors.specs.declared.Error.TheVariants.{BadName, NoVariable, NoRoom, ShortBuffer}
-use Rattle.names.specs.Name.{good, wrong}
+use Rattle.names.specs.Name.{good as good-name, wrong}
 use Rattle.names.specs.Name.{name_check}
 use Rattle.names.specs.Rules.{NameRule}
 use Rattle.names.proofs.NameLaws.{check-good-exactly, split-check}
@@ -65,7 +65,7 @@ module _ (m : Model) where
   unfolding call_model
   step-misnamed name action at g = rw g
 
-  step-named : (name : List ℕ) (action : Action) → name_check name ≡ good → call_model (named name action) m ≡ action_model action name m
+  step-named : (name : List ℕ) (action : Action) → name_check name ≡ good-name → call_model (named name action) m ≡ action_model action name m
   unfolding call_model
   step-named name action g = rw g
 

@@ -16,7 +16,7 @@ use Rattle.errors.specs.declared.Error.TheVariants.{BadArea, BadName, NoRoom}
 use Rattle.errors.proofs.ErrorLaws.{code-range}
 use Rattle.errors.specs.Errors.{code_of, moved}
 use Rattle.partitions.specs.declared.Partition.{Partition}
-use Rattle.std.specs.Prelude.{Ok, Err}
+use Rattle.std.specs.Prelude.{Ok}
 use Rattle.partitions.specs.Find.{area_of}
 use Rattle.partitions.specs.Cover.{area_at}
 use Rattle.partitions.proofs.CoverLaws.{check-accepts}

@@ -14,7 +14,7 @@ use Rattle.header.specs.Checksum.{sum_from}
 use Rattle.header.specs.Header.{header_at, name_at, validity_of, validity_at}
 use Rattle.header.specs.Rules.{blocks_at}
 use Rattle.partition_name.specs.Name.{same_name, padded, matches_name}
-use Rattle.std.specs.Prelude.{Ok, Err}
+use Rattle.std.specs.Prelude.{Ok}
 use Rattle.partitions.specs.Walk.{allowed_length, partition_of, past_of, step_at, walk_from, walk}
 use Rattle.partitions.specs.Find.{matches, first_match, only_match, only_by, only_of}
 use Rattle.partitions.specs.Cover.{area_at}

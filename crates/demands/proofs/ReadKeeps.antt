@@ -3,7 +3,7 @@ use Prim.Native.Nat.{ℕ, ◌+◌}
 use mathlib.Core.Path.{◌≡◌, ap, ◌∙◌}
 use mathlib.Core.List.{List}
 use Rattle.lists.specs.Pasted.{pasted}
-use Rattle.std.specs.Prelude.{Ok, Err}
+use Rattle.std.specs.Prelude.{Ok}
 use Rattle.partitions.specs.Find.{area_of}
 use Rattle.variables.specs.Calls.{Call, read, count, call_area}
 use Rattle.variables.proofs.KeptLaws.{read-area, count-area}

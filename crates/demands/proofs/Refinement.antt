@@ -7,7 +7,7 @@ use lib.ListN.{length}
 use Rattle.lists.specs.Bytes.{AllBytes}
 use Rattle.lists.specs.Pasted.{pasted}
 use Rattle.partitions.specs.declared.Partition.{Partition}
-use Rattle.std.specs.Prelude.{Ok, Err}
+use Rattle.std.specs.Prelude.{Ok}
 use Rattle.partitions.specs.Find.{area_of}
 use Rattle.partitions.specs.Cover.{area_at, OutsideKept}
 use Rattle.partitions.proofs.FrameLaws.{among-area, pasted-kept, area-new, bytes-new, area-bytes, kept_same, kept_again}

@@ -12,7 +12,7 @@ use Rattle.errors.specs.declared.Error.TheVariants.{NoPartition, BadName}
 use Rattle.errors.specs.Errors.{header_code, code_of, offset_of}
 use Rattle.header.specs.Rules.{Breaks}
 use Rattle.partitions.specs.declared.Partition.{Partition}
-use Rattle.std.specs.Prelude.{Ok, Err}
+use Rattle.std.specs.Prelude.{Result, Ok, Err}
 use Rattle.partitions.specs.Find.{Found}
 use Rattle.std.specs.Prelude.{Ok, Err}
 use Rattle.partitions.specs.Find.{check_of, index_of, find_of}
@@ -169,7 +169,7 @@ module _ (I : List ℕ) (bytes : AllBytes I) where
     where
       go : (c : Result ℕ Error) → check_of I ≡ c → Answers I check (seen_check c I)
       go (Ok n) e = Answers.done-check ((check-accepts I bytes n).0 e)
-      go (Rejects x) e = missed-row check I x (λ name k. elim k [ ]) (inl ((check-refuses I bytes x).0 e))
+      go (Err x) e = missed-row check I x (λ name k. elim k [ ]) (inl ((check-refuses I bytes x).0 e))
 
   pub partition-row : (n : ℕ) → Answers I (partition n) (seen (partition n) I)
   partition-row n = go (index_of I n) refl

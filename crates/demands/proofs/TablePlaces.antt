@@ -8,7 +8,7 @@ use lib.Seq.{take_at, drop_at}
 use Rattle.lists.specs.Pasted.{pasted}
 use Rattle.lists.proofs.PastedLaws.{pasted-first}
 use Rattle.partitions.specs.declared.Partition.{Partition}
-use Rattle.std.specs.Prelude.{Ok, Err}
+use Rattle.std.specs.Prelude.{Ok}
 use Rattle.partitions.specs.Find.{area_of}
 use Rattle.partitions.proofs.AreaLaws.{Among}
 use Rattle.partitions.proofs.FrameLaws.{among-area, among-kept, kept-pasted, pasted-kept, area-new}

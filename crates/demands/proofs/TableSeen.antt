@@ -9,7 +9,7 @@ use Rattle.errors.specs.declared.Error.{Error}
 use Rattle.errors.specs.Errors.{code_of, offset_of, moved}
 use Rattle.names.specs.Name.{good}
 use Rattle.partitions.specs.declared.Partition.{Partition}
-use Rattle.std.specs.Prelude.{Ok, Err}
+use Rattle.std.specs.Prelude.{Ok}
 use Rattle.partitions.specs.Find.{area_of}
 use Rattle.partitions.specs.Cover.{area_at}
 use Rattle.partitions.proofs.AreaLaws.{Among}

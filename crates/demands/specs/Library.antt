@@ -1,7 +1,7 @@
 -- What the library answers to a request, and to a list of calls.
 use Rattle.std.specs.Prelude.{ℕ, List, [], ◌∷◌, Result}
-use Rattle.partitions.specs.Find.{Found}
-use Rattle.partitions.specs.Find.{check_of, index_of, find_of, area_of}
+use Rattle.errors.specs.declared.Error.{Error}
+use Rattle.partitions.specs.Find.{Found, check_of, index_of, find_of, area_of}
 use Rattle.partitions.specs.Views.{check_answer, find_answer}
 use Rattle.variables.specs.Calls.{Call}
 use Rattle.nvram.specs.Calls.{Told, ImageOutcome, call_image}

@@ -4,7 +4,7 @@ use Rattle.lists.specs.Bytes.{same_bytes, stands}
 use Rattle.lists.specs.Pasted.{pasted}
 use Rattle.header.specs.Checksum.{sum_from}
 use Rattle.header.specs.Header.{header_at, name_at, validity_of, validity_at}
-use Rattle.std.specs.Prelude.{Ok, Err}
+use Rattle.std.specs.Prelude.{Ok}
 use Rattle.partition_name.specs.Name.{same_name, padded, matches_name}
 use Rattle.partitions.specs.Walk.{allowed_length, partition_of, past_of, step_at, walk_from, walk}
 use Rattle.partitions.specs.Find.{checked_by, check_of, at_index, index_by, index_of, matches, first_match, find_by, find_of, only_match, only_by, only_of, area_of}
@@ -77,7 +77,7 @@ pub record SecondCommons : Type 0 where
   pub removes-unknown : call_image (remove (0x62 ∷ [])) T ≡ refused []
   pub normalizes : call_image normalize T ≡ refused []
   -- the other calls take the image
-  pub accepted : check_of T ≡ Accepted 2
+  pub accepted : check_of T ≡ Ok 2
   pub index : index_of T 1 ≡ Ok (record { offset = 32; blocks = record { 0 = 2 }; signature = 0x70 })
   pub found : find_of T 0x70 common ≡ Ok first
   pub area : area_of T (find_of T 0x70 common) ≡ drop 16 held

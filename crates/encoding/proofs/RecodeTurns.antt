@@ -163,7 +163,7 @@ module _ {l : List ℕ} {from to at : ℕ} {b : List ℕ} {i o y n : ℕ} (s : R
             }
 
     -- a piece of k bytes without 0x00 and 0xFF
-    module _ (e : get_or b i 0 ≢ 255) {k : ℕ} (q : k ≡ 0 + until_either 0 255 (drop 0 (take (to - i) (drop i b)))) where
+    module _ (e : get_or b i 0 ≢ 255) {k : ℕ} (q : k ≡ until_either 0 255 (take (to - i) (drop i b))) where
       plain-shown : PlainSpelled (get_or l i 0) (part l (i + 1) to)
       plain-shown = plain-spelled (get_or l i 0) (part l (i + 1) to) (λ z. e (here-now ∙ z)) (ap spelled (sym first) ∙ s.valid)
 

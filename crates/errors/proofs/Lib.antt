@@ -1,1 +1,2 @@
 pub mod ErrorLaws
+pub mod Passed

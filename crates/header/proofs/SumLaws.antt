@@ -46,3 +46,10 @@ pub name-last : (bytes : List ℕ) → length bytes ≡ 16 → drop (length byte
 name-last bytes n =
     let e : length bytes - 12 ≡ 4 = omega arith in
     ap (λ (k : ℕ). drop k bytes) e ∙ ap (drop 4) (sym (take_all 16 bytes (omega arith)) ∙ header-bytes bytes 0 (omega arith))
+
+-- the twelve bytes of the name in a whole header, where they stand in the image
+pub name-part : (image : List ℕ) (at : ℕ) → at + 16 ≤ length image → take (at + 16 - (at + 4)) (drop (at + 4) image) ≡ name_at image at
+unfolding name_at
+name-part image at h =
+    let n : at + 16 - (at + 4) ≡ 12 = omega arith in
+    (λ i. take (n i) (drop (at + 4) image)) ∙ part_bytes image at 4 12 (omega arith)

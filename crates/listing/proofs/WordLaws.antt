@@ -1,7 +1,7 @@
 -- Laws of the text's words: numbers in decimal and hex, names, lines, and the text of a refused image.
 use Prim.Native.Nat.{ℕ, zero, suc, ◌+◌, ◌/◌, ◌%◌, ◌^◌, ◌≤◌, ◌<◌}
 use mathlib.Core.Path.{◌≡◌, refl, sym, ap, ◌∙◌}
-use mathlib.Core.Bool.{◌&&◌, cond}
+use mathlib.Core.Bool.{◌&&◌, cond, not}
 use mathlib.Core.List.{List, [], ◌∷◌, ◌++◌, append_assoc}
 use native.Mathlib.Numerals.{add-one}
 use native.Mathlib.Omega.{arith}
@@ -9,6 +9,7 @@ use lib.Dec.{eqb, leb, ltb}
 use lib.ListN.{length, get_or, drop, length-append, drop_of_length-le}
 use lib.Seq.{drop-cons}
 use borrow.Author.Tests.{eq-eqb, ne_eqb, ltb-true, ltb-false, lt-ltb, le-ltb, le-leb, lt-leb}
+use Rattle.std.specs.List.{prefix_len}
 use Rattle.lists.proofs.Tests.{split}
 use Rattle.header.specs.declared.Header.{Header}
 use Rattle.header.specs.Header.{name_at, header_at}
@@ -113,6 +114,13 @@ module _ (name : List ℕ) (i : ℕ) where
   pub name-end : length name ≤ i → shown_name (drop i name) ≡ []
   unfolding shown_name
   name-end h = rw (drop_of_length-le name h)
+
+-- as many bytes are shown as stand before the first 0x00
+pub shown-length : (name : List ℕ) → prefix_len (λ b. not (eqb b 0)) name ≡ length (shown_name name)
+unfolding shown_name
+shown-length [] = refl
+shown-length (b ∷ bs) =
+    split (eqb b 0) (λ t. rw (t, shown_name)) (λ t. rw (t, shown_name) (ap (λ n. 1 + n) (shown-length bs) ∙ omega arith))
 
 pub name-within : (name : List ℕ) → length (shown_name name) ≤ length name
 unfolding shown_name

@@ -2,14 +2,25 @@
 #![tactic(auto)]
 
 ghost use Rattle.std.specs.Prelude.{◌≡◌, ◌+◌, not, drop, position};
+ghost use Rattle.errors.specs.declared.Error.TheVariants.{BadName};
 ghost use Rattle.names.specs.Name.{name_byte, name_check};
 ghost use Rattle.names.specs.Helpers.{allowed_ahead, check_by_allowed};
+
+use errors::Error;
 
 // Where a name breaks the rule first.
 #[derive(Clone, Copy)]
 pub struct NameFault {
     // The index of the first byte that is not allowed, or of the 32nd byte; 0 for an empty name.
     pub at: usize,
+}
+
+impl From<NameFault> for Error {
+    ghost from_gives = { λ fault error. error ≡ BadName fault.at };
+
+    fn from(fault: NameFault) -> Self {
+        Error::BadName { at: fault.at }
+    }
 }
 
 // A mark for each byte: 1 where a name may hold it.

@@ -4,7 +4,6 @@
 ghost use Rattle.std.specs.Prelude.{◌≡◌, ◌<◌, ◌≤◌, IfOk, length, take};
 ghost use Rattle.std.specs.Io.KnownBytes.{Consumes, IsAtEnd};
 
-use listing::Listed;
 use std::io;
 use std::io::Read;
 
@@ -12,9 +11,8 @@ fn main(rt: HostRuntime) -> io::Result<()> {
     let mut image = image_buffer();
     let mut text = text_buffer();
     let n = read_full(&mut rt.stdin(), &mut image)?;
-    let listed = listing::listing(&image[..n], &mut text);
     // A listing always has room: `text-fits` of the crate listing.
-    let Listed::Written { length } = listed else {
+    let Ok(length) = listing::listing(&image[..n], &mut text) else {
         return Ok(());
     };
     rt.write_all(&text[..length])

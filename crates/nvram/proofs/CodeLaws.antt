@@ -9,7 +9,9 @@ use Rattle.lists.specs.Pasted.{pasted}
 use Rattle.lists.proofs.Tests.{clash}
 use Rattle.lists.proofs.PastedLaws.{part-pasted}
 use Rattle.errors.specs.declared.Error.{Error}
-use Rattle.names.specs.Name.{name_check}
+use Rattle.errors.specs.declared.Error.TheVariants.{BadName}
+use Rattle.names.specs.declared.NameFault.{NameFault}
+use Rattle.names.specs.Name.{NameCheck, name_check}
 use Rattle.names.proofs.NameLaws.{split-check}
 use Rattle.header.specs.declared.Bytes.{Bytes}
 use Rattle.header.specs.Header.{bytes_of}
@@ -22,7 +24,7 @@ use Rattle.variables.specs.Calls.{Action, set_to, removal, read_into, Call, name
 use Rattle.variables.specs.Helpers.{reply_offset}
 use Rattle.variables.specs.Views.{amount_reply, edit_reply}
 use Rattle.variables.proofs.CallLaws.{check-named, check-normalize, check-count, Bufferless, buffer-none, reply-bounded}
-use Rattle.nvram.specs.declared.Area.{Area}
+use Rattle.nvram.specs.declared.Span.{Span}
 use Rattle.nvram.specs.Common.{common_signature, common, common_of}
 use Rattle.nvram.specs.Calls.{refusal, told_at, count_told, read_told, edit_told, ImageOutcome, call_image}
 use Rattle.nvram.specs.Helpers.{area_span, name_first, named_span, error_offset, answer_moved}
@@ -40,7 +42,7 @@ module _ (I : List ℕ) (f : Found) (ef : f ≡ only_of I common_signature commo
         let i = among-inside I p (common-among I p (sym here ∙ ep)) in
         subst (λ (x : Bytes). (16 ≤ x.0) × (p.offset + x.0 ≤ length I)) (sym eb) (i.header, i.fits)
 
-    pub span-found : ◌≡◌ {A = Result Area Error} (Ok (record { start = p.offset + 16; end = p.offset + b.0 })) (area_span (common_of I))
+    pub span-found : ◌≡◌ {A = Result Span Error} (Ok (record { start = p.offset + 16; end = p.offset + b.0 })) (area_span (common_of I))
     unfolding area_span
     span-found = (λ i. Ok (record { start = p.offset + 16; end = p.offset + (eb i).0 })) ∙ ap area_span (sym ep ∙ here)
 
@@ -49,7 +51,7 @@ module _ (I : List ℕ) (f : Found) (ef : f ≡ only_of I common_signature commo
   span-refused e ee = ap area_span (sym ee ∙ here)
 
 -- the variable area stands here
-pub record AreaAt (I : List ℕ) (a : Area) : Type 0 where
+pub record AreaAt (I : List ℕ) (a : Span) : Type 0 where
   pub partition : Partition
   pub found : common_of I ≡ Ok partition
   pub start : partition.offset + 16 ≡ a.start
@@ -58,13 +60,13 @@ pub record AreaAt (I : List ℕ) (a : Area) : Type 0 where
   pub bytes : area_of I (Ok partition) ≡ take (a.end - a.start) (drop a.start I)
 
 module _ (I : List ℕ) where
-  module _ (r : Result Area Error) (er : r ≡ area_span (common_of I)) where
-    pub span-at : (a : Area) → r ≡ Ok a → AreaAt I a
+  module _ (r : Result Span Error) (er : r ≡ area_span (common_of I)) where
+    pub span-at : (a : Span) → r ≡ Ok a → AreaAt I a
     unfolding area_span
     span-at a h = split-found (common_of I)
         (λ p k.
         let q : Ok (record { start = p.offset + 16; end = p.offset + (bytes_of p.blocks).0 }) ≡ Ok a = ap area_span (sym k) ∙ (sym er ∙ h) in
-        let z : ◌≡◌ {A = Area} (record { start = p.offset + 16; end = p.offset + (bytes_of p.blocks).0 }) a = cc in
+        let z : ◌≡◌ {A = Span} (record { start = p.offset + 16; end = p.offset + (bytes_of p.blocks).0 }) a = cc in
         let i = among-inside I p (common-among I p k) in
         subst (AreaAt I) z
         (record {
@@ -85,7 +87,7 @@ module _ (I : List ℕ) where
 
   -- for a call that takes a name
   module _ (name : List ℕ) where
-    pub named-at : (a : Area) → Ok a ≡ named_span (name_check name) (common_of I) → AreaAt I a
+    pub named-at : (a : Span) → Ok a ≡ named_span (name_check name) (common_of I) → AreaAt I a
     unfolding named_span
     named-at a h = split-found (common_of I)
         (λ p k. span-at (Ok a) (h ∙ ap (named_span (name_check name)) k ∙ ap area_span (sym k)) a refl)
@@ -101,23 +103,29 @@ module _ (I : List ℕ) where
         (λ p k. let q = h ∙ ap (named_span (name_check name)) k in clash (cc))
         (λ e k. let q = h ∙ ap (named_span (name_check name)) k in let z : x ≡ name_first (name_check name) e = cc in (e, k, z))
 
-    -- the code's two tests
-    pub named-area : (r : Result Area Error) → r ≡ area_span (common_of I) → (a : Area) → r ≡ Ok a
-        → Ok a ≡ named_span (name_check name) (common_of I)
-    unfolding named_span area_span
-    named-area r er a h = split-found (common_of I)
-        (λ p k. sym h ∙ er ∙ ap area_span k ∙ ap (named_span (name_check name)) (sym k))
-        (λ x k. let q = ap area_span (sym k) ∙ (sym er ∙ h) in clash (cc))
+    -- by what the code finds of the image and of the name
+    module _ (r : Result Span Error) (er : r ≡ area_span (common_of I)) where
+      pub named-found : (a : Span) → r ≡ Ok a → Ok a ≡ named_span (name_check name) (common_of I)
+      unfolding named_span area_span
+      named-found a h = split-found (common_of I)
+          (λ p k. sym h ∙ er ∙ ap area_span k ∙ ap (named_span (name_check name)) (sym k))
+          (λ x k. let q = ap area_span (sym k) ∙ (sym er ∙ h) in clash (cc))
 
-    pub named-first : (r : Result Area Error) → r ≡ area_span (common_of I) → (e : Error) → r ≡ Err e
-        → Err (name_first (name_check name) e) ≡ named_span (name_check name) (common_of I)
-    unfolding named_span
-    named-first r er e h = ap (named_span (name_check name)) (sym (span-not r er e h))
+      module _ (e : Error) (h : r ≡ Err e) where
+        named-second : (c : NameCheck) → name_check name ≡ c → Err (name_first c e) ≡ named_span (name_check name) (common_of I)
+        unfolding named_span
+        named-second c w = (λ i. Err (name_first (sym w i) e)) ∙ ap (named_span (name_check name)) (sym (span-not r er e h))
+
+        pub named-misnamed : (f : NameFault) → name_check name ≡ Err f → Err (BadName f.at) ≡ named_span (name_check name) (common_of I)
+        named-misnamed f w = named-second (Err f) w
+
+        pub named-wellnamed : (u : ⊤) → name_check name ≡ Ok u → Err e ≡ named_span (name_check name) (common_of I)
+        named-wellnamed u w = named-second (Ok u) w
 
 -- ---- the answer and the image, by where the area stands
 
 module _ (call : Call) (I : List ℕ) where
-  module _ (a : Area) (k : AreaAt I a) where
+  module _ (a : Span) (k : AreaAt I a) where
     -- what the call does to its area
     abbrev does : Outcome
     does = call_area call (take (a.end - a.start) (drop a.start I))
@@ -157,7 +165,7 @@ amount_offset : (r : Result ℕ Error) → error_offset r ≡ reply_offset (amou
 amount_offset (Ok n) = refl
 amount_offset (Err e) = refl
 
-module _ (I : List ℕ) (a : Area) (k : AreaAt I a) where
+module _ (I : List ℕ) (a : Span) (k : AreaAt I a) where
   -- the area that the call gets
   abbrev given : List ℕ
   given = take (a.end - a.start) (drop a.start I)

@@ -6,10 +6,10 @@ use Rattle.errors.specs.Errors.{offset_of, moved}
 use Rattle.header.specs.Header.{bytes_of}
 use Rattle.names.specs.Name.{NameCheck, on_check}
 use Rattle.partitions.specs.Find.{Found}
-use Rattle.nvram.specs.declared.Area.{Area}
+use Rattle.nvram.specs.declared.Span.{Span}
 
 -- where the variable area stands
-unfoldable pub area_span : Found → Result Area Error
+unfoldable pub area_span : Found → Result Span Error
 area_span (Ok p) = Ok (record { start = p.offset + 16; end = p.offset + (bytes_of p.blocks).0 })
 area_span (Err e) = Err e
 
@@ -18,7 +18,7 @@ abbrev pub name_first : NameCheck → Error → Error
 name_first check e = on_check check e BadName
 
 -- the same, where 11 goes before why there is none
-unfoldable pub named_span : NameCheck → Found → Result Area Error
+unfoldable pub named_span : NameCheck → Found → Result Span Error
 named_span check (Ok p) = area_span (Ok p)
 named_span check (Err e) = Err (name_first check e)
 

@@ -28,31 +28,31 @@ const SIGNATURE: u8 = 0x70;
 
 // Where the variable area stands in an image.
 #[derive(Clone, Copy)]
-struct Area {
+struct Span {
     start: usize,
     end: usize,
 }
 
 // Where the variable area stands: in the only partition `common`.
-fn common_area(image: &[u8]) -> Result<Area, Error>
+fn common_area(image: &[u8]) -> Result<Span, Error>
     ensures { result ≡ area_span (common_of image.now) }
 {
     let p = lookup::find_only(image, SIGNATURE, b"common")?;
     let bytes = p.blocks.bytes();
-    Ok(Area {
+    Ok(Span {
         start: p.offset + Header::SIZE,
         end: p.offset + bytes.0,
     })
 }
 
 // The same for a call that takes a name: a bad one goes before an error of the image.
-fn named_area(image: &[u8], name: &[u8]) -> Result<Area, Error>
+fn named_area(image: &[u8], name: &[u8]) -> Result<Span, Error>
     ensures { result ≡ named_span (name_check name.now) (common_of image.now) }
 {
     match common_area(image) {
         Ok(area) => Ok(area),
         Err(e) => {
-            names::check(name).map_err(|wrong| Error::BadName { at: wrong.at })?;
+            names::check(name)?;
             Err(e)
         }
     }

@@ -10,4 +10,3 @@ pub mod PairPlaces
 pub mod PairRuns
 pub mod JoinLaws
 pub mod FindPlaces
-pub mod Passed

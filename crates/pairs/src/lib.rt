@@ -68,8 +68,9 @@ fn scan_value(area: &[u8], from: usize) -> Result<usize, Error>
     ensures { result ≡ end_of AreaFault.Escape (length area.now) from from (scan_value false 0 (drop from area.now)) }
 {
     let mut i = from;
+    // A turn takes the plain bytes, which the search passes over, and one escape of two bytes: no iterator steps so.
     loop {
-        i = lists::find_either(area, i, 0, 255);
+        i = lists::find_either(area, i, 0x00, 0xFF);
         if area.len() <= i {
             break Err(cut_off(area.len()));
         }

@@ -11,7 +11,6 @@ use Rattle.lists.specs.Pasted.{pasted}
 use Rattle.lists.proofs.Tests.{clash}
 use Rattle.header.specs.declared.Bytes.{Bytes}
 use Rattle.errors.specs.declared.Error.{Error}
-use Rattle.header.specs.declared.Validity.TheVariants.{Valid}
 use Rattle.header.specs.Header.{header_at, bytes_of, validity_at}
 use Rattle.header.proofs.ValidityLaws.{valid-nonzero, valid-fits}
 use Rattle.partitions.specs.declared.Partition.{Partition}
@@ -38,7 +37,7 @@ abbrev WalkInside : List ℕ → Walk → Type 0
 WalkInside image (covered ps) = EachInside image ps
 WalkInside image (broken e) = Unit {0}
 
-valid-inside : (image : List ℕ) (at : ℕ) → at < length image → validity_at image at ≡ Valid → Inside image (partition_of image at)
+valid-inside : (image : List ℕ) (at : ℕ) → at < length image → validity_at image at ≡ Ok tt → Inside image (partition_of image at)
 unfolding partition_of
 valid-inside image at l e =
     let n : (header_at image at).length.0 ≡ 0 → ⊥ = valid-nonzero image at e in

@@ -12,7 +12,6 @@ use Rattle.lists.proofs.Tests.{split, clash, and-true}
 use Rattle.errors.specs.declared.Error.{Error}
 use Rattle.errors.specs.declared.HeaderFault.{HeaderFault}
 use Rattle.errors.specs.declared.Error.TheVariants.{BadHeader}
-use Rattle.header.specs.declared.Validity.TheVariants.{Valid, Invalid}
 use Rattle.header.specs.Header.{byte_at, validity_at}
 use Rattle.header.specs.Rules.{Sound, Breaks}
 use Rattle.header.proofs.RuleLaws.{blocks-read, signature-read, valid-exactly, invalid-exactly, sound-valid, breaks-invalid, sound-checksum}
@@ -110,15 +109,15 @@ module _ (image : List ℕ) (bytes : AllBytes image) where
   outcome-first a s (covered ps) (complete c) = complete (next s c)
   outcome-first a s (broken e) (stopped c l x) = stopped (next s c) l x
 
-  outcome-next : (at : ℕ) → validity_at image at ≡ Valid → (w : Walk) → Outcome (past_of image at) w → Outcome at (first (partition_of image at) w)
+  outcome-next : (at : ℕ) → validity_at image at ≡ Ok tt → (w : Walk) → Outcome (past_of image at) w → Outcome at (first (partition_of image at) w)
   outcome-next at v w o =
       rw (partition-same image at)
       (outcome-first at ((valid-exactly image at bytes).0 v) w (subst (λ (k : ℕ). Outcome k w) (past_same image at) o))
 
-  outcome-stop : (at : ℕ) → at < length image → (e : Error) → validity_at image at ≡ Invalid e → Outcome at (broken e)
+  outcome-stop : (at : ℕ) → at < length image → (e : Error) → validity_at image at ≡ Err e → Outcome at (broken e)
   outcome-stop at l e v =
       let h = invalid-here image at e v in
-      rw h.1 (stopped here l ((invalid-exactly image at bytes h.0).0 (v ∙ ap Invalid h.1)))
+      rw h.1 (stopped here l ((invalid-exactly image at bytes h.0).0 (v ∙ ap Err h.1)))
 
   rest-outcome : Outcome 0 (rest image 0)
   rest-outcome = rest-by-steps image Outcome (complete here) (λ at l v w o. outcome-next at v w o) outcome-stop

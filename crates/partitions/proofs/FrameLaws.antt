@@ -13,8 +13,7 @@ use Rattle.lists.proofs.Tests.{split, clash}
 use Rattle.lists.proofs.ByteLaws.{every_drop, every_take}
 use Rattle.lists.proofs.PastedLaws.{length-pasted, take-pasted-before, drop-pasted-after, drop-pasted-at, bytes-pasted}
 use Rattle.header.specs.declared.Blocks.{Blocks}
-use Rattle.header.specs.declared.Validity.{Validity}
-use Rattle.header.specs.declared.Validity.TheVariants.{Valid, Invalid}
+use Rattle.header.specs.Header.{Validity}
 use Rattle.header.specs.Header.{header_at, bytes_of, validity_at}
 use Rattle.header.specs.Rules.{blocks_at}
 use Rattle.header.proofs.RuleLaws.{blocks-read}
@@ -39,16 +38,16 @@ module _ (I J : List ℕ) (l : length I ≡ length J) where
   step_same a h = by-validity (validity_at I a) refl
     where
       by-validity : (v : Validity) → validity_at I a ≡ v → step_at I a ≡ step_at J a
-      by-validity Valid e =
-          let f : validity_at J a ≡ Valid = sym (validity-same I J l a h) ∙ e in
+      by-validity (Ok _) e =
+          let f : validity_at J a ≡ Ok tt = sym (validity-same I J l a h) ∙ e in
           rw (e, f)
           (λ i. cond (leb (l i) a) (Ok None)
           (Ok (Some (record {
             here = record { offset = a; blocks = (h i).length; signature = (h i).signature };
             next = record { at = a + (bytes_of (h i).length).0 };
           }))))
-      by-validity (Invalid x) e =
-          let f : validity_at J a ≡ Invalid x = sym (validity-same I J l a h) ∙ e in
+      by-validity (Err x) e =
+          let f : validity_at J a ≡ Err x = sym (validity-same I J l a h) ∙ e in
           rw (e, f) (λ i. cond (leb (l i) a) (Ok None) (Err x))
 
   -- past an offset from which on all headers are the same

@@ -10,7 +10,6 @@ use Rattle.lists.proofs.ByteLaws.{every_get}
 use Rattle.errors.specs.declared.HeaderFault.{HeaderFault}
 use Rattle.errors.specs.declared.Error.{Error}
 use Rattle.errors.specs.declared.Error.TheVariants.{ImageLength, BadHeader}
-use Rattle.header.specs.declared.Validity.TheVariants.{Valid}
 use Rattle.header.specs.Header.{header_at, validity_at}
 use Rattle.header.proofs.ValidityLaws.{valid-nonzero, invalid-here}
 use Rattle.partitions.specs.declared.Partition.{Partition}
@@ -32,7 +31,7 @@ pub record Goes (image : List ℕ) (at : ℕ) (s : Step) : Type 0 where
   pub past : s.next.at ≡ at + s.here.blocks.0 * 16
   pub inside : s.next.at ≤ length image
 
-valid-goes : (image : List ℕ) (at : ℕ) → at < length image → validity_at image at ≡ Valid
+valid-goes : (image : List ℕ) (at : ℕ) → at < length image → validity_at image at ≡ Ok tt
     → Goes image at (onward image at)
 unfolding partition_of past_of validity_at
 valid-goes image at l v =

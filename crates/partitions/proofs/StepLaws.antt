@@ -7,8 +7,7 @@ use borrow.Author.Tests.{le-leb, lt-leb}
 use Rattle.header.specs.declared.Blocks.{Blocks}
 use Rattle.header.specs.declared.Bytes.{Bytes}
 use Rattle.errors.specs.declared.Error.{Error}
-use Rattle.header.specs.declared.Validity.{Validity}
-use Rattle.header.specs.declared.Validity.TheVariants.{Valid, Invalid}
+use Rattle.header.specs.Header.{Validity}
 use Rattle.header.specs.Header.{header_at, bytes_of, validity_at}
 use Rattle.header.proofs.ValidityLaws.{valid-fits}
 use Rattle.partitions.specs.Walk.{Stepped}
@@ -25,15 +24,15 @@ module _ (image : List ℕ) (at : ℕ) where
   unfolding step_at
   step_by_lem h = rw (lt-leb _ _ h)
 
-  pub step-next : at < length image → validity_at image at ≡ Valid → step_at image at ≡ Ok (Some (onward image at))
+  pub step-next : at < length image → validity_at image at ≡ Ok tt → step_at image at ≡ Ok (Some (onward image at))
   step-next h e = step_by_lem h ∙ ap (step_by image at) e
 
-  pub step-broken : at < length image → (e : Error) → validity_at image at ≡ Invalid e → step_at image at ≡ Err e
+  pub step-broken : at < length image → (e : Error) → validity_at image at ≡ Err e → step_at image at ≡ Err e
   step-broken h e v = step_by_lem h ∙ ap (step_by image at) v
 
   -- the same of what the code has read
   module _ (v : Validity) (ev : v ≡ validity_at image at) where
-    module _ (valid : v ≡ Valid) (l : Blocks) (el : l ≡ (header_at image at).length) (b : Bytes) (eb : b ≡ bytes_of l) where
+    module _ (valid : v ≡ Ok tt) (l : Blocks) (el : l ≡ (header_at image at).length) (b : Bytes) (eb : b ≡ bytes_of l) where
       past : b ≡ bytes_of (header_at image at).length
       past = eb ∙ ap bytes_of el
 
@@ -51,5 +50,5 @@ module _ (image : List ℕ) (at : ℕ) where
           (λ i. Ok (Some (record { here = record { offset = at; blocks = el i; signature = es i }; next = record { at = at + (past i).0 } })))
           ∙ sym (step-next h (sym ev ∙ valid))
 
-    pub read-broken : at < length image → (e : Error) → v ≡ Invalid e → Err e ≡ step_at image at
+    pub read-broken : at < length image → (e : Error) → v ≡ Err e → Err e ≡ step_at image at
     read-broken h e q = sym (step-broken h e (sym ev ∙ q))

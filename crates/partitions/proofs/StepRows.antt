@@ -9,7 +9,6 @@ use Rattle.lists.specs.Bytes.{AllBytes}
 use Rattle.errors.specs.declared.HeaderFault.{HeaderFault}
 use Rattle.errors.specs.declared.HeaderFault.TheVariants.{ZeroLength, PastEnd, Checksum}
 use Rattle.errors.specs.declared.Error.TheVariants.{BadHeader}
-use Rattle.header.specs.declared.Validity.TheVariants.{Invalid}
 use Rattle.header.specs.Rules.{Sound, Breaks}
 use Rattle.header.proofs.ValidityLaws.{invalid-here}
 use Rattle.header.proofs.RuleLaws.{valid-exactly, invalid-exactly, sound-valid, breaks-invalid}
@@ -53,7 +52,7 @@ module _ (image : List ℕ) (at : ℕ) (bytes : AllBytes image) where
       subst (λ (s : Stepped). StepRow image at (step_answer s)) (sym onward-same) (onward-row ((valid-exactly image at bytes).0 e))
   step_row (Err x) (breaks l e) =
       let h = invalid-here image at x e in
-      rw h.1 (fault-row l h.0 ((invalid-exactly image at bytes h.0).0 (e ∙ ap Invalid h.1)))
+      rw h.1 (fault-row l h.0 ((invalid-exactly image at bytes h.0).0 (e ∙ ap Err h.1)))
 
   broken-seen : {f : HeaderFault} → at < length image → Breaks image at f → step_answer (step_at image at) ≡ fault_answer f
   broken-seen {f} l b = ap step_answer (step-broken image at l (BadHeader f at) (breaks-invalid image at bytes b))

@@ -10,8 +10,7 @@ use lib.ListN.{length}
 use Rattle.lists.proofs.Tests.{clash}
 use Rattle.errors.specs.declared.Error.{Error}
 use Rattle.errors.specs.declared.Error.TheVariants.{ImageLength}
-use Rattle.header.specs.declared.Validity.{Validity}
-use Rattle.header.specs.declared.Validity.TheVariants.{Valid, Invalid}
+use Rattle.header.specs.Header.{Validity}
 use Rattle.header.specs.Header.{header_at, validity_at}
 use Rattle.header.proofs.ValidityLaws.{valid-nonzero, valid-fits}
 use Rattle.partitions.specs.declared.Partition.{Partition}
@@ -25,19 +24,19 @@ use Rattle.partitions.proofs.StepLaws.{step_end, step-next, step-broken}
 -- the three outcomes of a step, with what holds at each
 pub data View (image : List ℕ) (at : ℕ) : Stepped → Type 0 where
   ends : length image ≤ at → View image at (Ok None)
-  goes : at < length image → validity_at image at ≡ Valid → View image at (Ok (Some (onward image at)))
-  breaks : {e : Error} → at < length image → validity_at image at ≡ Invalid e → View image at (Err e)
+  goes : at < length image → validity_at image at ≡ Ok tt → View image at (Ok (Some (onward image at)))
+  breaks : {e : Error} → at < length image → validity_at image at ≡ Err e → View image at (Err e)
 
 pub view : (image : List ℕ) (at : ℕ) → View image at (step_at image at)
 view image at = go (dec_lt at (length image)) (validity_at image at) refl
   where
     go : Dec (at < length image) → (v : Validity) → validity_at image at ≡ v → View image at (step_at image at)
     go (no n) v e = let l : length image ≤ at = omega arith in rw (step_end image at l) (ends l)
-    go (yes l) Valid e = rw (step-next image at l e) (goes l e)
-    go (yes l) (Invalid x) e = rw (step-broken image at l x e) (breaks l e)
+    go (yes l) (Ok _) e = rw (step-next image at l e) (goes l e)
+    go (yes l) (Err x) e = rw (step-broken image at l x e) (breaks l e)
 
 -- a partition that breaks no rule takes at least its header, and ends inside the image
-pub past-bounds : (image : List ℕ) (at : ℕ) → at < length image → validity_at image at ≡ Valid
+pub past-bounds : (image : List ℕ) (at : ℕ) → at < length image → validity_at image at ≡ Ok tt
     → (at + 16 ≤ past_of image at) × (past_of image at ≤ length image)
 unfolding past_of
 past-bounds image at l e =
@@ -98,9 +97,9 @@ module _ (image : List ℕ) (at : ℕ) where
 -- INDUCTION over the walk: what holds at the image's end and at a header that breaks a rule, and before a partition where it
 -- holds after it, holds of what the walk finds
 module _ (image : List ℕ) (P : ℕ → Walk → Type 0) (last : P (length image) (covered []))
-    (step : (at : ℕ) → at < length image → validity_at image at ≡ Valid → (w : Walk) → P (past_of image at) w
+    (step : (at : ℕ) → at < length image → validity_at image at ≡ Ok tt → (w : Walk) → P (past_of image at) w
     → P at (first (partition_of image at) w))
-    (stop : (at : ℕ) → at < length image → (e : Error) → validity_at image at ≡ Invalid e → P at (broken e)) where
+    (stop : (at : ℕ) → at < length image → (e : Error) → validity_at image at ≡ Err e → P at (broken e)) where
   by-steps : (n at : ℕ) → at ≤ length image → length image - at < n → P at (walk_from n image at)
   unfolding walk_from
   by-steps zero at l f = absurd (omega arith)

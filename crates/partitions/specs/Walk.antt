@@ -3,8 +3,7 @@ use Rattle.std.specs.Prelude.{ℕ, zero, suc, ◌+◌, ◌%◌, Bool, ◌&&◌, 
 use Rattle.errors.specs.declared.Error.{Error}
 use Rattle.errors.specs.declared.HeaderFault.TheVariants.{PastEnd}
 use Rattle.errors.specs.declared.Error.TheVariants.{ImageLength, BadHeader}
-use Rattle.header.specs.declared.Validity.{Validity}
-use Rattle.header.specs.declared.Validity.TheVariants.{Valid, Invalid}
+use Rattle.header.specs.Header.{Validity}
 use Rattle.header.specs.Header.{header_at, validity_at, bytes_of}
 use Rattle.partitions.specs.declared.Partition.{Partition}
 use Rattle.partitions.specs.declared.Step.{Step}
@@ -32,8 +31,8 @@ Stepped = Result (Option Step) Error
 
 -- what a step finds inside the image, by the validity of the header there
 abbrev pub step_by : List ℕ → ℕ → Validity → Stepped
-step_by image at Valid = Ok (Some (onward image at))
-step_by image at (Invalid e) = Err e
+step_by image at (Ok _) = Ok (Some (onward image at))
+step_by image at (Err e) = Err e
 
 -- what a step at an offset finds: the partition and its next offset, the end, or the rule that its header breaks
 unfoldable pub step_at : List ℕ → ℕ → Stepped

@@ -6,7 +6,7 @@ ghost use Rattle.partitions.specs.Walk.{allowed_length, step_at};
 ghost use Rattle.partitions.specs.Find.{check_of, index_of};
 
 use errors::Error;
-use header::{Blocks, Header, Validity};
+use header::{Blocks, Header};
 
 // The greatest length of an image in bytes: 65,536 blocks.
 const MAX_IMAGE: usize = 1048576;
@@ -49,10 +49,7 @@ impl Cursor {
         if n <= at {
             return Ok(None);
         }
-        match Header::check_at(image, at) {
-            Validity::Valid => {}
-            Validity::Invalid(e) => return Err(e),
-        }
+        Header::check_at(image, at)?;
         let blocks = Header::length_at(image, at);
         let bytes = blocks.bytes();
         let signature = Header::signature_at(image, at);

@@ -65,6 +65,19 @@ part-written d a e w last h k n q =
     (q ∙ pasted-in w (mid_of a (e - a) d) (omega arith)
     ∙ ap (pasted (mid_of a (e - a) d) 0) (sym (take_all (length (mid_of a (e - a) d)) w (omega arith))))
 
+-- a lent part `&mut d[a..]`, to which bytes were copied
+pub tail-copied : (d : List ℕ) (a : ℕ) (w last : List ℕ) → a + length w ≤ length d
+    → last ≡ pasted (mid_of a (length d - a) d) 0 (take (length (mid_of a (length d - a) d)) w) → put_mid a (length d - a) d last ≡ pasted d a w
+tail-copied d a w last h q = part-copied d a (length d) w last (omega arith) (omega arith) (omega arith) q
+
+-- a lent part `&mut d[a..]`, at whose start bytes were written
+pub tail-put : (d : List ℕ) (a : ℕ) (w last : List ℕ) → a + length w ≤ length d → last ≡ pasted (mid_of a (length d - a) d) 0 w
+    → put_mid a (length d - a) d last ≡ pasted d a w
+tail-put d a w last h q =
+    let m : length (mid_of a (length d - a) d) ≡ length d - a = mid_len a (length d) d (omega arith) in
+    tail-copied d a w last h
+    (q ∙ ap (pasted (mid_of a (length d - a) d) 0) (sym (take_all (length (mid_of a (length d - a) d)) w (omega arith))))
+
 -- the bytes from `from` up to `to` of l, copied to a lent part of d that is as long
 pub part-put : (d l : List ℕ) (from to at : ℕ) (last : List ℕ) → at + (to - from) ≤ length d
     → last ≡ pasted (mid_of at (at + (to - from) - at) d) 0 (take (length (mid_of at (at + (to - from) - at) d)) (take (to - from) (drop from l)))

@@ -1,5 +1,5 @@
 -- For the loops: how far they go byte by byte, a part of a list, and a stored value made canonical in its place.
-use Rattle.std.specs.Prelude.{ℕ, ◌+◌, ◌-◌, ◌≡◌, Bool, ◌&&◌, cond, List, ◌++◌, length, take, drop, leb, ltb, Option, Some, None}
+use Rattle.std.specs.Prelude.{ℕ, ◌+◌, ◌-◌, Bool, true, false, ◌&&◌, cond, List, [], ◌∷◌, length, take, drop, leb, ltb, eqb, Option, Some, None}
 use Rattle.lists.specs.Pasted.{pasted}
 use Rattle.values.specs.Value.{decode, spelled, encode}
 
@@ -19,12 +19,13 @@ next_stop from len = cond (ltb (len - from) 128) len (from + 128)
 unfoldable pub part : List ℕ → ℕ → ℕ → List ℕ
 part l from to = take (to - from) (drop from l)
 
--- what the stored bytes s stand for from the offset i up to j is written to the buffer d from o up to p, and gives b
-pub record Passed (s d : List ℕ) (i o j p : ℕ) (b : List ℕ) : Type 0 where
-  pub piece : List ℕ
-  pub told : decode (drop i s) ≡ piece ++ decode (drop j s)
-  pub end : o + length piece ≡ p
-  pub written : b ≡ pasted d o piece
+-- ---- stored bytes that are read piece by piece
+
+-- whether an escape's 0xFF ends the bytes; after: the byte before them was one
+unfoldable pub opened : Bool → List ℕ → Bool
+opened after [] = after
+opened true (c ∷ bs) = opened false bs
+opened false (b ∷ bs) = opened (eqb b 0xFF) bs
 
 -- ---- a stored value made canonical in its place
 

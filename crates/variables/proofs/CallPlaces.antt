@@ -13,6 +13,7 @@ use Rattle.lists.proofs.Tests.{split, clash}
 use Rattle.errors.specs.declared.Error.{Error}
 use Rattle.errors.specs.declared.AreaFault.{AreaFault}
 use Rattle.errors.specs.declared.Error.TheVariants.{BadArea, BadName, NoVariable, NoRoom, ShortBuffer}
+use Rattle.names.specs.declared.NameFault.{NameFault}
 use Rattle.names.specs.Name.{NameCheck, good, name_check, on_check}
 use Rattle.names.proofs.NameLaws.{split-check}
 use Rattle.values.specs.Value.{decode, written_of}
@@ -74,34 +75,19 @@ scan-faulty call area sought e n q =
 
 -- ---- the scan for a name, and the calls that take one
 
--- what the check of the caller's name comes to
-abbrev pub name_told : NameCheck → Result ⊤ Error
-name_told c = on_check c (Ok tt) (λ at. Err (BadName at))
-
-pub told-name : (c : NameCheck) (r : Result ⊤ Error) → MatchResult c (λ x. r ≡ Ok x) (λ f. IsErrAnd r (λ e. e ≡ BadName f.at)) → r ≡ name_told c
-told-name (Ok x) r h = h
-told-name (Err f) (Ok y) h = absurd h
-told-name (Err f) (Err y) h = ap Err h
-
 -- what the pairs of such a scan tell
 pub record NamedPairs (area name : List ℕ) (s : Scanned) : Type 0 where
   pub good-name : name_check name ≡ good
   pub scanned : PairsOf (parse area) (find_at area name) s
 
 module _ (area name : List ℕ) where
-  pub scan-misnamed : (e : Error) → Err e ≡ name_told (name_check name) → Err e ≡ named_scan area name
+  pub scan-misnamed : (f : NameFault) → name_check name ≡ Err f → Err (BadName f.at) ≡ named_scan area name
   unfolding named_scan
-  scan-misnamed e w =
-      split-check (name_check name)
-      (λ t. let f : Err e ≡ Ok tt = rw t at w in clash cc)
-      (λ at t. let f : Err e ≡ Err (BadName at) = rw t at w in rw t (cc))
+  scan-misnamed f w = rw w
 
-  pub scan-wellnamed : (u : ⊤) → Ok u ≡ name_told (name_check name) → scanned_of (parse area) (find_at area name) ≡ named_scan area name
+  pub scan-wellnamed : (u : ⊤) → name_check name ≡ Ok u → scanned_of (parse area) (find_at area name) ≡ named_scan area name
   unfolding named_scan
-  scan-wellnamed u w =
-      split-check (name_check name)
-      (λ t. rw t refl)
-      (λ at t. let f : Ok u ≡ Err (BadName at) = rw t at w in clash cc)
+  scan-wellnamed u w = rw w
 
   pub named-pairs : (s : Scanned) → Ok s ≡ named_scan area name → NamedPairs area name s
   unfolding named_scan
@@ -128,6 +114,10 @@ module _ (name : List ℕ) (action : Action) (area : List ℕ) where
   call-scanned s e =
       let k = named-pairs area name s e in
       call-parsed (named name action) area (check-named name action ∙ k.good-name) k.scanned.pairs k.scanned.is
+
+-- a refused edit leaves the area
+pub edit-refused : {o : Outcome} {k : Error} (call : Call) {area : List ℕ} → o ≡ refuse k call area → (refused k ≡ o.reply) × (area ≡ o.area)
+edit-refused call f = (ap (λ (o : Outcome). o.reply) (sym f), ap (λ (o : Outcome). o.area) (sym f))
 
 -- A SET BY THE PAIRS THAT IT MAKES: where they lack room it is refused and the area stays
 pub set-makes : (name value : List ℕ) (ps qs : List Pair) (area : List ℕ) → set_pair name value ps ≡ qs
@@ -216,12 +206,17 @@ module _ (area name buffer : List ℕ) (s : Scanned) (e : Ok s ≡ named_scan ar
   scanned-read = call-scanned name (read_into buffer) area s e
 
   -- no pair has the name
-  pub read-none : s.place ≡ None → Reads outcome (refused NoVariable) buffer
-  read-none h =
-      let f : lookup name ps ≡ missing = find-missing area name ps told.scanned.is (sym told.scanned.there ∙ h) in
-      reads-refused (read name buffer) (scanned-read ∙ read-missing name ps area buffer f) refl
+  pub read-none : {r : Result Place Error} {f : Error} → r ≡ ok_or s.place NoVariable → r ≡ Err f → Reads outcome (refused f) buffer
+  read-none k h =
+      let n = no_place NoVariable s.place _ (sym k ∙ h) in
+      let f : lookup name ps ≡ missing = find-missing area name ps told.scanned.is (sym told.scanned.there ∙ n.0) in
+      let r = reads-refused (read name buffer) (scanned-read ∙ read-missing name ps area buffer f) refl in
+      record { result_value = ap refused n.1 ∙ r.result_value; buffer_after = r.buffer_after }
 
-  module _ (p : Place) (h : s.place ≡ Some p) where
+  module _ {r : Result Place Error} (p : Place) (k : r ≡ ok_or s.place NoVariable) (ok : r ≡ Ok p) where
+    h : s.place ≡ Some p
+    h = some-place NoVariable s.place p (sym k ∙ ok)
+
     abbrev value : List ℕ
     value = decode (part area (p.equals + 1) p.end)
 

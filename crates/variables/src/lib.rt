@@ -13,7 +13,7 @@ use pairs::Scanned;
 pub fn scan_named(area: &[u8], name: &[u8]) -> Result<Scanned, Error>
     ensures { result ≡ named_scan area.now name.now }
 {
-    names::check(name).map_err(|wrong| Error::BadName { at: wrong.at })?;
+    names::check(name)?;
     pairs::scan(area, name)
 }
 

@@ -1,9 +1,10 @@
 -- `hex_digit` meets its contract.
+use native.Mathlib.Omega.{arith}
 use Rattle.listing.proofs.WordLaws.{hex-low, hex-high}
 use Rattle.listing.proofs.hex_digit.Goals as goal
 
-pub returns-then-n-lt10 : goal.returns-then-n-lt10
-returns-then-n-lt10 c = hex-low _ c.if-n-lt10.true
+pub returns-in-0-to-9 : goal.returns-in-0-to-9
+returns-in-0-to-9 c = hex-low _ (omega arith)
 
-pub returns-else-n-lt10 : goal.returns-else-n-lt10
-returns-else-n-lt10 c = hex-high _ c.if-n-lt10.false
+pub returns-in_default : goal.returns-in_default
+returns-in_default c = omega (arith, hex-high c.args.n (omega arith))

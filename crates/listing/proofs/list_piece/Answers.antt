@@ -1,5 +1,7 @@
 -- `list_piece` meets its contract.
-use Rattle.listing.proofs.PieceLaws.{listed-short, listed-written}
+use Rattle.std.proofs.Common.{refl, rules, ◌∙◌}
+use Rattle.listing.proofs.PieceLaws.{listed-short}
+use Rattle.listing.proofs.WriterLaws.{listed-written}
 use Rattle.listing.proofs.list_piece.Goals as goal
 
 pub returns-then-text-piece : goal.returns-then-text-piece
@@ -9,6 +11,6 @@ returns-then-text-piece c =
 
 pub returns : goal.returns
 returns c =
-    let a = c.args in
-    let t = listed-written a.piece.now a.text.now c.put-length.ensures in
-    record { value = t.0; text_after = t.1 }
+    let same = c.put.ensures.same in
+    let t = listed-written refl c.put.ensures refl in
+    record { value = t.0; text_after = search rules ∙ t.1 }

@@ -1,12 +1,13 @@
 -- `visible_byte` meets its contract.
+use native.Mathlib.Omega.{arith}
 use Rattle.listing.proofs.WordLaws.{visible-below, visible-above, visible-between}
 use Rattle.listing.proofs.visible_byte.Goals as goal
 
-pub returns-then-b-lt33 : goal.returns-then-b-lt33
-returns-then-b-lt33 c = visible-below _ c.if-b-lt33.true
+pub returns-in-33-to-126 : goal.returns-in-33-to-126
+returns-in-33-to-126 c = visible-between _ (omega arith) (omega arith)
 
-pub returns-then-b-gt126 : goal.returns-then-b-gt126
-returns-then-b-gt126 c = visible-above _ c.if-b-lt33.false c.if-b-gt126.true
+pub returns-in_default : goal.returns-in_default
+returns-in_default c = visible-below _ (omega arith)
 
-pub returns : goal.returns
-returns c = visible-between _ c.if-b-lt33.false c.if-b-gt126.false
+pub returns-in_default-2 : goal.returns-in_default-2
+returns-in_default-2 c = visible-above _ (omega arith) (omega arith)

@@ -1,6 +1,6 @@
 -- `pairs::pair_at` meets its contract, by the two scans.
 use mathlib.Core.Path.{ap, ◌∙◌}
-use Rattle.pairs.proofs.Passed.{passed-on}
+use Rattle.errors.proofs.Passed.{passed-on}
 use native.Mathlib.Omega.{arith}
 use Rattle.std.specs.Prelude.{Err}
 use Rattle.pairs.proofs.PairPlaces.{name-end, stand-past, stand-end, stand-wrong, stand-value}

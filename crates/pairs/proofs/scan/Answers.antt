@@ -2,7 +2,7 @@
 -- name goes on there, and the two names agree for k bytes.
 use mathlib.Core.Path.{◌∙◌}
 use native.Mathlib.Omega.{arith}
-use Rattle.pairs.proofs.Passed.{passed-on}
+use Rattle.errors.proofs.Passed.{passed-on}
 use Rattle.pairs.proofs.PairPlaces.{NoPair, pair-seen}
 use Rattle.pairs.proofs.PairRuns.{walked_none, walked_more}
 use Rattle.pairs.proofs.JoinLaws.{walked-repeat, walked-fault, walked-done}

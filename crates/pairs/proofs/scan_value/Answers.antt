@@ -4,14 +4,8 @@ use mathlib.Core.Path.{ap, ◌∙◌}
 use Rattle.std.specs.Prelude.{Err}
 use native.Mathlib.Omega.{arith}
 use borrow.Author.Rules.{rules}
-use Rattle.pairs.proofs.ScanPlaces.{value-begun, value-cut, value-ends, value-skip, value-mark, escape-wrong, escape-next}
+use Rattle.pairs.proofs.ScanPlaces.{value-cut, value-ends, value-skip, value-mark, escape-wrong, escape-next}
 use Rattle.pairs.proofs.scan_value.Goals as goal
-
-pub loop-i-init : goal.loop-i-init
-loop-i-init c = value-begun _ _
-
-pub loop-i-smaller : goal.loop-i-smaller
-loop-i-smaller c = omega (arith, c.find_either-i.ensures)
 
 pub loop-i-preserved : goal.loop-i-preserved
 loop-i-preserved c = escape-next (value-mark c.loop-i.invariant _ c.find_either-i.ensures (search rules) c.if-area-i-eq0.false) (search rules) c.if-area-i-eq0-2.false

@@ -1,6 +1,6 @@
 -- `variables::count` meets its contract, by the scan of the area.
 use mathlib.Core.Path.{ap, ◌∙◌}
-use Rattle.pairs.proofs.Passed.{passed-on}
+use Rattle.errors.proofs.Passed.{passed-on}
 use Rattle.variables.specs.Views.{amount_reply}
 use Rattle.variables.proofs.CallPlaces.{count-pairs, count-refused}
 use Rattle.variables.proofs.count.Goals as goal
