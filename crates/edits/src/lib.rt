@@ -23,34 +23,18 @@ fn shift_tail(area: &mut [u8], rest: usize, to: usize, used: usize)
     lists::fill(&mut area[end..], 0);
 }
 
-// Writes a name and its `=` at an offset.
-fn put_name(area: &mut [u8], at: usize, name: &[u8])
-    requires { at + length name.now + 1 ≤ length area.old }
-    ensures { area.new ≡ pasted area.old at (name.now ++ 0x3D ∷ []) }
+// Writes a pair in canonical form over a part that is just as long.
+fn put_pair(part: &mut [u8], name: &[u8], value: &[u8])
+    requires { length part.old ≡ length (pair_bytes (canonical_pair name.now value.now)) }
+    ensures { part.new ≡ pair_bytes (canonical_pair name.now value.now) }
 {
-    let equals = at + name.len();
-    lists::copy(name, &mut area[at..equals]);
-    area[equals] = b'=';
-}
-
-// Writes the canonical form of a value, of `size` bytes, and its 0x00 at an offset.
-fn put_value(area: &mut [u8], at: usize, value: &[u8], size: usize)
-    requires { (size ≡ length (encode value.now)) × (at + size + 1 ≤ length area.old) }
-    ensures { area.new ≡ pasted area.old at (encode value.now ++ 0x00 ∷ []) }
-{
-    let end = at + size;
-    encoding::encode(value, &mut area[at..end]);
-    area[end] = 0;
-}
-
-// Writes a pair in canonical form at an offset; `size` is the length of its value's canonical form.
-fn put_pair(area: &mut [u8], at: usize, name: &[u8], value: &[u8], size: usize)
-    requires { (size ≡ length (encode value.now)) × (at + length name.now + size + 2 ≤ length area.old) }
-    ensures { area.new ≡ pasted area.old at (pair_bytes (canonical_pair name.now value.now)) }
-{
-    put_name(area, at, name);
-    let start = at + name.len() + 1;
-    put_value(area, start, value, size);
+    let equals = name.len();
+    let start = equals + 1;
+    let end = part.len() - 1;
+    part[..equals].copy_from_slice(name);
+    part[equals] = b'=';
+    encoding::encode(value, &mut part[start..end]);
+    part[end] = 0;
 }
 
 // Puts a canonical pair in the place of the bytes from `start` up to `rest`; the pairs end at `used`.
@@ -76,7 +60,7 @@ fn replace(
     }
     let to = start + name.len() + size + 2;
     shift_tail(area, rest, to, used);
-    put_pair(area, start, name, value, size);
+    put_pair(&mut area[start..to], name, value);
     Ok(())
 }
 

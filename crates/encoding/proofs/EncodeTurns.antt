@@ -14,14 +14,14 @@ use Rattle.lists.proofs.Tests.{split}
 use Rattle.lists.specs.Helpers.{until_either}
 use Rattle.lists.proofs.FindLaws.{until-short, until-before, until-next}
 use Rattle.lists.proofs.PastedLaws.{set-pasted, set_after}
-use Rattle.lists.proofs.Grown.{Grown, grown-none, grown-as, grown-same, grown-piece, grown-byte, grown-all, grown-end}
+use Rattle.lists.proofs.Grown.{Grown, grown-none, grown-as, grown-same, grown-piece, grown-all, grown-end}
 use Rattle.values.specs.Value.{mark, full_escapes, rest_escape, run_bytes, escaped, encode}
 use Rattle.encoding.specs.Helpers.{leading}
 use Rattle.values.specs.Rules.{Begins}
 use Rattle.lists.proofs.Grown.{grown-left}
 use Rattle.values.proofs.EncodeLaws.{rest-none, rest_some, length-run-bytes, length-encode}
 use Rattle.values.proofs.DecodeTurns.{none-left}
-use Rattle.values.proofs.CanonicalLaws.{encode-longest, encode-itself, encode-piece, encode-empty}
+use Rattle.values.proofs.CanonicalLaws.{encode-longest, encode-piece, encode-empty}
 
 -- ---- the bytes at the start that are b
 
@@ -59,9 +59,6 @@ leading_length b l =
 -- ---- one turn of `encode`, at the first byte x of what is left of the value
 
 module _ {r : List ℕ} {x : ℕ} {l : List ℕ} (e : r ≡ x ∷ l) where
-  encode-byte : escaped x ≡ false → encode r ≡ x ∷ encode l
-  encode-byte t = ap encode e ∙ encode-itself x l t
-
   some : leading x r ≢ 0
   some z = omega (arith, ap (leading x) e, leading-same x x l refl)
 
@@ -80,11 +77,10 @@ module _ {r : List ℕ} {x : ℕ} {l : List ℕ} (e : r ≡ x ∷ l) where
         ∙ (let c : drop (leading x r) r ≡ s = ap (λ (m : ℕ). drop m r) (sym q) ∙ sym g in ap (λ (w : List ℕ). run_bytes x (length p) ++ encode w) c)
 
 -- a piece p without 0x00 and 0xFF, and the bytes s after it
-module _ (r : List ℕ) {k : ℕ} {p s : List ℕ} (q : k ≡ 0 + until_either 0 255 (drop 0 r)) (f : p ≡ take k r) (g : s ≡ drop k r) where
+module _ (r : List ℕ) {k : ℕ} {p s : List ℕ} (q : k ≡ until_either 0 255 r) (f : p ≡ take k r) (g : s ≡ drop k r) where
   encode-plain : encode r ≡ p ++ encode s
   encode-plain =
-      let n : until_either 0 255 r ≡ k = omega arith in
-      rw (f, g) (ap encode (sym (take-append-drop k r)) ∙ encode-piece (take k r) (drop k r) (rw n at (until-before 0 255 r)))
+      rw (f, g) (ap encode (sym (take-append-drop k r)) ∙ encode-piece (take k r) (drop k r) (rw (sym q) at (until-before 0 255 r)))
 
   pub piece-inside : k ≤ length r
   piece-inside = omega (arith, until-short 0 255 r)
@@ -105,9 +101,6 @@ module _ {v r : List ℕ} {n : ℕ} (s : Counted v r n) where
   pub counted-bound : n ≤ 2 * length v
   counted-bound = omega (arith, s.sum, length-encode v)
 
-  pub counted-byte : {x : ℕ} {l : List ℕ} → r ≡ x ∷ l → escaped x ≡ false → Counted v l (n + 1)
-  counted-byte e t = record { sum = omega (arith, s.sum, ap length (encode-byte e t)); left = omega (arith, s.left, ap length e) }
-
   pub counted-run : {x : ℕ} {l : List ℕ} → r ≡ x ∷ l → escaped x ≡ true → {k : ℕ} {p w : List ℕ} → k ≡ leading x r → p ≡ take k r → w ≡ drop k r
       → {m : ℕ} → m ≡ length (run_bytes 0 (length p)) → Counted v w (n + m)
   counted-run {x} e t {k} {p} {w} q f g h = record {
@@ -123,7 +116,7 @@ module _ {v r : List ℕ} {n : ℕ} (s : Counted v r n) where
     left = omega (arith, s.left, run-smaller e q f g);
   }
 
-  pub counted-piece : {k : ℕ} {p w : List ℕ} → k ≡ 0 + until_either 0 255 (drop 0 r) → p ≡ take k r → w ≡ drop k r → Counted v w (n + length p)
+  pub counted-piece : {k : ℕ} {p w : List ℕ} → k ≡ until_either 0 255 r → p ≡ take k r → w ≡ drop k r → Counted v w (n + length p)
   counted-piece {k} {p} {w} q f g = record {
     sum = omega (arith, s.sum, ap length (encode-plain r q f g), length-append p (encode w));
     left = omega (arith, s.left, ap length g, length-drop k r);
@@ -150,16 +143,6 @@ module _ {v d r : List ℕ} {o : ℕ} {b : List ℕ} (s : Encoding v d r o b) wh
   left-fits = grown-left s.grown (omega (arith, s.fits))
 
   module _ {x : ℕ} {l : List ℕ} (e : r ≡ x ∷ l) where
-    pub byte-room : escaped x ≡ false → o < length b
-    byte-room t = omega (arith, encoding-same, left-fits, ap length (encode-byte e t))
-
-    pub byte-turn : escaped x ≡ false → Encoding v d l (o + 1) (set b o x)
-    byte-turn t = record {
-      grown = grown-byte s.grown x (encode l) (encode-byte e t) (omega (arith, byte-room t, encoding-same));
-      fits = s.fits;
-      left = omega (arith, s.left, ap length e);
-    }
-
     module _ (t : escaped x ≡ true) {k : ℕ} {p w : List ℕ} (q : k ≡ leading x r) (f : p ≡ take k r) (g : w ≡ drop k r) where
       pub run_fits : o + length (run_bytes x (length p)) ≤ length b
       run_fits = omega (arith, encoding-same, left-fits, ap length (encode-run e q f g t), length-append (run_bytes x (length p)) (encode w))
@@ -173,7 +156,7 @@ module _ {v d r : List ℕ} {o : ℕ} {b : List ℕ} (s : Encoding v d r o b) wh
         left = omega (arith, s.left, run-smaller e q f g);
       }
 
-  module _ {k : ℕ} {p w : List ℕ} (q : k ≡ 0 + until_either 0 255 (drop 0 r)) (f : p ≡ take k r) (g : w ≡ drop k r) where
+  module _ {k : ℕ} {p w : List ℕ} (q : k ≡ until_either 0 255 r) (f : p ≡ take k r) (g : w ≡ drop k r) where
     pub piece-room : o + length p ≤ length b
     piece-room = omega (arith, encoding-same, left-fits, ap length (encode-plain r q f g), length-append p (encode w))
 

@@ -33,7 +33,7 @@ fn main(rt: HostRuntime) -> io::Result<()> {
     write_check(&rt, &image, b"65536 blocks in one header: ")
 }
 
-// The greatest image, all zero; the `ensures` gives its length, which lending a part of it asks.
+// The greatest image, all zero; a function of its own, since a proof reads so long a literal slowly where it is lent.
 fn blank_image() -> [u8; 1048576]
     ensures { 1048576 ≡ length result }
 {

@@ -26,13 +26,15 @@ module _ (t : List ℕ) (room : ℕ) where
   unfolding listed_of
   listed-not h = rw (lt-leb _ _ h)
 
-module _ (t d : List ℕ) where
-  pub listed-short : length d < length t → (Err ShortBuffer ≡ listed_of t (length d)) × (d ≡ written_in t d)
-  listed-short h = (sym (listed-not t (length d) h), sym (written-kept t d h))
+-- what is promised of the answer r, and of b, which a buffer d becomes, where the text t is written
+abbrev pub Lists : List ℕ → List ℕ → Listed → List ℕ → Type 0
+Lists t d r b = record { value : r ≡ listed_of t (length d); text_after : b ≡ written_in t d }
 
-  pub listed-as : {u : List ℕ} {r : Listed} {b : List ℕ} → t ≡ u → (r ≡ listed_of t (length d)) × (b ≡ written_in t d)
-      → (r ≡ listed_of u (length d)) × (b ≡ written_in u d)
-  listed-as e q = rw e at q
+pub listed-short : (t d : List ℕ) → length d < length t → Lists t d (Err ShortBuffer) d
+listed-short t d h = record { value = sym (listed-not t (length d) h); text_after = sym (written-kept t d h) }
+
+pub listed-as : (t d : List ℕ) {u : List ℕ} {r : Listed} {b : List ℕ} → t ≡ u → Lists t d r b → Lists u d r b
+listed-as t d e q = rw e at q
 
 -- a text that is written lies inside the buffer
 pub written-inside : (t : List ℕ) (room n : ℕ) → listed_of t room ≡ Ok n → n ≤ room

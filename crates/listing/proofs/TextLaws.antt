@@ -100,6 +100,9 @@ module _ (image : List ℕ) (l : Lines) (m : measured_of image ≡ Ok l) where
   pub measured-length : length (text_by image (walk image)) ≡ l.bytes + length (decimal l.blocks) + 27
   measured-length = sym (ap length measured-pieces) ∙ simp length-append (omega (arith, measured-lines))
 
+-- what is known of an image of which the lines are measured
+pub ruleset measured = (measured-covered, measured-lines)
+
 pub measured-broken : (image : List ℕ) (e : Error) → measured_of image ≡ Err e → text_by [] (broken e) ≡ text_by image (walk image)
 unfolding measured_of measured_by text_by
 measured-broken image e m = go (walk image) m

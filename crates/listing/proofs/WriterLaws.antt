@@ -5,12 +5,11 @@ use mathlib.Core.List.{List, [], ◌++◌}
 use native.Mathlib.Omega.{arith}
 use lib.ListN.{length, length-append}
 use Rattle.std.specs.Prelude.{Ok}
-use Rattle.lists.specs.Pasted.{pasted, written_in}
+use Rattle.lists.specs.Pasted.{pasted}
 use Rattle.lists.proofs.WrittenLaws.{written_in_lem}
 use Rattle.lists.proofs.PastedLaws.{pasted-more}
 use Rattle.lists.proofs.Grown.{Grown, grown-none, grown-as, grown-piece, grown-all, grown-end, grown-left}
-use Rattle.listing.specs.Listed.{listed_of}
-use Rattle.listing.proofs.PieceLaws.{listed-fits}
+use Rattle.listing.proofs.PieceLaws.{Lists, listed-fits}
 use Rattle.listing.specs.declared.Writer.{Writer}
 use Rattle.listing.specs.Helpers.{HasRoom, Wrote}
 
@@ -32,15 +31,15 @@ pub wrote_as : {u v : Writer} {s t : List ℕ} → Wrote u s v → s ≡ t → W
 wrote_as p e = rw e at p
 
 -- a text that is written to a buffer from its start on
-pub listed-written : {u v : Writer} {s t : List ℕ} → u.at ≡ 0 → Wrote u s v → s ≡ t
-    → (Ok v.at ≡ listed_of t (length u.text.now)) × (v.text.now ≡ written_in t u.text.now)
-listed-written {u} {v} {s} {t} z p e =
+pub listed-written : {u v : Writer} {s t b : List ℕ} → u.at ≡ 0 → Wrote u s v → s ≡ t → b ≡ v.text.now → Lists t u.text.now (Ok v.at) b
+listed-written {u} {v} {s} {t} z p e f =
     let q = wrote_as p e in
     let n : v.at ≡ length t = omega (arith, q.end) in
-    let h : length t ≤ length u.text.now = omega (arith, q.room) in (
-      ap Ok n ∙ sym (listed-fits t (length u.text.now) h),
-      q.text ∙ (λ i. pasted u.text.now (z i) t) ∙ sym (written_in_lem t u.text.now h),
-    )
+    let h : length t ≤ length u.text.now = omega (arith, q.room) in
+    record {
+      value = ap Ok n ∙ sym (listed-fits t (length u.text.now) h);
+      text_after = f ∙ q.text ∙ (λ i. pasted u.text.now (z i) t) ∙ sym (written_in_lem t u.text.now h);
+    }
 
 -- of a text that writer u writes, rest is to come from writer v
 pub record Writing (u : Writer) (all rest : List ℕ) (v : Writer) : Type 0 where

@@ -39,6 +39,7 @@ fn decimal_len(n: usize) -> usize
 }
 
 // One hex digit, in capitals.
+#[tactic(auto, unfolding(crate::specs::Text::hex_digit))]
 fn hex_digit(n: u8) -> u8
     requires { n < 16 }
     ensures { result ≡ hex_digit n }
@@ -50,6 +51,7 @@ fn hex_digit(n: u8) -> u8
 }
 
 // A byte of a name as it is shown.
+#[tactic(auto, unfolding(crate::specs::Text::visible))]
 fn visible_byte(b: u8) -> u8
     ensures { result ≡ visible b }
 {
@@ -173,6 +175,7 @@ impl Writer<'_> {
     }
 
     // Writes a partition's line.
+    #[tactic(auto, using(crate::proofs::WordLaws::line_lengths), unfolding(crate::specs::Text::hex_byte))]
     fn put_line(&mut self, image: &[u8], p: Partition)
         requires { HasRoom self.old (length (line image.now p)) }
         ensures { Wrote self.old (line image.now p) self.new }
@@ -234,6 +237,7 @@ fn list_refused(text: &mut [u8], e: Error) -> Result<usize, Error>
 }
 
 // The text of an accepted image, of which the size of the lines is known.
+#[tactic(auto, using(crate::proofs::TextLaws::measured))]
 fn list_accepted(text: &mut [u8], image: &[u8], lines: Lines) -> Result<usize, Error>
     requires image_len_bound { length image.now ≤ 65536 }
     requires image_value { measured_of image.now ≡ Ok lines }

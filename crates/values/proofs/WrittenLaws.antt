@@ -3,7 +3,7 @@ use Prim.Native.Nat.{ℕ, ◌+◌, ◌-◌, ◌≤◌, ◌<◌}
 use mathlib.Core.Path.{◌≡◌, sym, ap, ◌∙◌}
 use mathlib.Core.List.{List}
 use native.Mathlib.Omega.{arith}
-use lib.ListN.{length, take, drop, length-take}
+use lib.ListN.{length, take}
 use lib.Dec.{leb}
 use borrow.Author.Tests.{le-leb, lt-leb, leb-true, leb-false}
 use borrow.Rule.Slice.PartMut.{put_mid, mid_of, mid_len}
@@ -13,7 +13,6 @@ use Rattle.lists.proofs.PastedLaws.{part-copied}
 use Rattle.lists.proofs.Tests.{split, clash}
 use Rattle.std.specs.Prelude.{Some, None}
 use Rattle.values.specs.Value.{written_of}
-use Rattle.values.specs.Helpers.{part}
 
 module _ (l : List ℕ) (room : ℕ) where
   pub written-fits : length l ≤ room → written_of l room ≡ Some (length l)
@@ -77,11 +76,3 @@ tail-put d a w last h q =
     let m : length (mid_of a (length d - a) d) ≡ length d - a = mid_len a (length d) d (omega arith) in
     tail-copied d a w last h
     (q ∙ ap (pasted (mid_of a (length d - a) d) 0) (sym (take_all (length (mid_of a (length d - a) d)) w (omega arith))))
-
--- the bytes from `from` up to `to` of l, copied to a lent part of d that is as long
-pub part-put : (d l : List ℕ) (from to at : ℕ) (last : List ℕ) → at + (to - from) ≤ length d
-    → last ≡ pasted (mid_of at (at + (to - from) - at) d) 0 (take (length (mid_of at (at + (to - from) - at) d)) (take (to - from) (drop from l)))
-    → put_mid at (at + (to - from) - at) d last ≡ pasted d at (part l from to)
-unfolding part
-part-put d l from to at last h q =
-    part-copied d at (at + (to - from)) (take (to - from) (drop from l)) last (omega arith) h (omega (arith, length-take (to - from) (drop from l))) q

@@ -36,7 +36,7 @@ fn split_plain(stored: &[u8], after: bool) -> (&[u8], &[u8])
     ensures plain { decode_from after stored.now ≡ result.0.now ++ decode_from after result.1.now }
     ensures opened_after { opened after stored.now ≡ opened after result.1.now }
 {
-    if after || stored.len() < 16 {
+    if after || first_stop(stored.len()) != 0 {
         return stored.split_at(0);
     }
     stored.split_at(lists::find_either(stored, 0, 255, 255))
@@ -76,7 +76,7 @@ pub fn decoded_len(stored: &[u8], room: usize) -> Option<usize>
             return None;
         }
         n += plain.len();
-        let (few, tail) = tail.split_at(tail.len().min(128));
+        let (few, tail) = tail.split_at(next_stop(0, tail.len()));
         let (k, open) = few_len(few, after);
         if room - n < k {
             return None;
@@ -115,6 +115,7 @@ fn decode_few(bytes: &[u8], after: bool, buffer: &mut [u8]) -> (usize, bool)
 }
 
 // Writes the value that is stored so at the start of the buffer, which has room for it.
+// It walks as decoded_len does: a trait over which both walk would be longer than the lines that are the same.
 fn decode_to(stored: &[u8], buffer: &mut [u8])
     requires { length (decode stored.now) ≤ length buffer.old }
     ensures { buffer.new ≡ pasted buffer.old 0 (decode stored.now) }
@@ -126,7 +127,7 @@ fn decode_to(stored: &[u8], buffer: &mut [u8])
         let (plain, tail) = split_plain(rest, after);
         lists::copy(plain, &mut buffer[put..]);
         put += plain.len();
-        let (few, tail) = tail.split_at(tail.len().min(128));
+        let (few, tail) = tail.split_at(next_stop(0, tail.len()));
         let (k, open) = decode_few(few, after, &mut buffer[put..]);
         put += k;
         rest = tail;

@@ -1,13 +1,15 @@
 -- `encoding::encode_to` meets its contract. The loop's invariant: the first bytes are in the buffer, and the rest is the canonical
 -- form of the bytes left.
-use mathlib.Core.Path.{sym, ◌∙◌}
+use mathlib.Core.Path.{refl, sym, ap, ◌∙◌}
 use native.Mathlib.Omega.{arith}
 use lib.ListN.{length}
 use borrow.Rule.Slice.PartMut.{mid_len}
-use Rattle.lists.proofs.FindLaws.{either-inside}
-use Rattle.values.proofs.WrittenLaws.{tail-put, tail-copied}
+use lib.Seq.{length-take-le}
+use Rattle.lists.specs.Pasted.{pasted}
+use Rattle.lists.proofs.FindLaws.{until-short}
+use Rattle.values.proofs.WrittenLaws.{tail-put}
 use Rattle.encoding.proofs.EncodeTurns.{leading_length, run-smaller, piece-smaller, encoding-none}
-use Rattle.encoding.proofs.EncodeTurns.{byte-room, byte-turn, run_fits, run-turn, piece-room, piece-turn, encoding-all}
+use Rattle.encoding.proofs.EncodeTurns.{run_fits, run-turn, piece-room, piece-turn, encoding-all}
 use Rattle.encoding.proofs.encode_to.Goals as goal
 
 pub loop-x-init : goal.loop-x-init
@@ -47,31 +49,28 @@ loop-x-preserved-then-is_escaped c =
     run-turn l.invariant e t c.leading.ensures p.front p.back q.ensures.value
     (tail-put l.buffer l.put _ q.new.buffer (run_fits l.invariant e t c.leading.ensures p.front p.back) q.ensures.buffer_after)
 
-pub bounds-buffer-put : goal.bounds-buffer-put
-bounds-buffer-put c =
-    let t = sym c.is_escaped.ensures ∙ c.if-is_escaped.false in
-    byte-room c.loop-x.invariant c.in-Some.ensures.cases.0 t
+pub put_plain-requires : goal.put_plain-requires
+put_plain-requires c =
+    let l = c.loop-x in
+    omega (arith, piece-room l.invariant refl refl refl, mid_len l.put (length l.buffer) l.buffer (omega arith), length-take-le _ l.rest.now (until-short 0 255 l.rest.now))
 
-pub loop-x-preserved-then-value-rest : goal.loop-x-preserved-then-value-rest
-loop-x-preserved-then-value-rest c =
-    let t = sym c.is_escaped.ensures ∙ c.if-is_escaped.false in
-    byte-turn c.loop-x.invariant c.in-Some.ensures.cases.0 t
-
-pub split_at-requires-else-value-rest : goal.split_at-requires-else-value-rest
-split_at-requires-else-value-rest c = either-inside c.loop-x.rest.now 0 0 255 c.find_either.ensures (omega arith)
+pub split_at-requires-else-is_escaped : goal.split_at-requires-else-is_escaped
+split_at-requires-else-is_escaped c = omega (arith, until-short 0 255 c.loop-x.rest.now, c.put_plain.ensures.value)
 
 pub loop-x-smaller : goal.loop-x-smaller
 loop-x-smaller c =
-    let p = c.split_at-else-value-rest.ensures in
+    let p = c.split_at-else-is_escaped.ensures in
     let t = sym c.is_escaped.ensures ∙ c.if-is_escaped.false in
-    piece-smaller c.loop-x.rest.now c.find_either.ensures p.front p.back c.in-Some.ensures.cases.0 t
+    piece-smaller c.loop-x.rest.now c.put_plain.ensures.value p.front p.back c.in-Some.ensures.cases.0 t
 
 pub loop-x-preserved : goal.loop-x-preserved
 loop-x-preserved c =
     let l = c.loop-x in
-    let p = c.split_at-else-value-rest.ensures in
-    let q = c.find_either.ensures in
-    piece-turn l.invariant q p.front p.back (tail-copied l.buffer l.put _ c.copy.new.to (piece-room l.invariant q p.front p.back) c.copy.ensures)
+    let p = c.split_at-else-is_escaped.ensures in
+    let q = c.put_plain in
+    let r = piece-room l.invariant q.ensures.value p.front p.back in
+    piece-turn l.invariant q.ensures.value p.front p.back
+    (tail-put l.buffer l.put _ q.new.buffer r (q.ensures.buffer_after ∙ ap (pasted _ 0) (sym p.front)))
 
 pub returns : goal.returns
 returns c = encoding-all c.loop-x.invariant c.in_default.ensures.cases

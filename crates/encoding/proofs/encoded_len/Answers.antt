@@ -1,9 +1,9 @@
 -- `encoding::encoded_len` meets its contract. The loop's invariant: n bytes, and the canonical form of the bytes left, are the whole length.
 use mathlib.Core.Path.{sym, ◌∙◌}
 use native.Mathlib.Omega.{arith}
-use Rattle.lists.proofs.FindLaws.{either-inside}
+use Rattle.lists.proofs.FindLaws.{until-short}
 use Rattle.encoding.proofs.EncodeTurns.{leading_length, run-smaller, piece-smaller}
-use Rattle.encoding.proofs.EncodeTurns.{counted-bound, counted-byte, counted-run, counted-piece, counted-all}
+use Rattle.encoding.proofs.EncodeTurns.{counted-bound, counted-run, counted-piece, counted-all}
 use Rattle.encoding.proofs.encoded_len.Goals as goal
 
 pub split_at-requires : goal.split_at-requires
@@ -28,34 +28,24 @@ loop-x-preserved-then-is_escaped c =
     let p = c.split_at.ensures in
     counted-run c.loop-x.invariant e t c.leading.ensures p.front p.back c.run_len-n.ensures
 
-pub overflow_add-n-then-value-rest : goal.overflow_add-n-then-value-rest
-overflow_add-n-then-value-rest c =
-    let t = sym c.is_escaped.ensures ∙ c.if-is_escaped.false in
-    omega (arith, counted-bound (counted-byte c.loop-x.invariant c.in-Some.ensures.cases.0 t))
+pub split_at-requires-else-is_escaped : goal.split_at-requires-else-is_escaped
+split_at-requires-else-is_escaped c = omega (arith, until-short 0 255 c.loop-x.rest.now, c.plain_len.ensures)
 
-pub loop-x-preserved-then-value-rest : goal.loop-x-preserved-then-value-rest
-loop-x-preserved-then-value-rest c =
-    let t = sym c.is_escaped.ensures ∙ c.if-is_escaped.false in
-    counted-byte c.loop-x.invariant c.in-Some.ensures.cases.0 t
-
-pub split_at-requires-else-value-rest : goal.split_at-requires-else-value-rest
-split_at-requires-else-value-rest c = either-inside c.loop-x.rest.now 0 0 255 c.find_either.ensures (omega arith)
-
-pub overflow_add-n-else-value-rest : goal.overflow_add-n-else-value-rest
-overflow_add-n-else-value-rest c =
-    let p = c.split_at-else-value-rest.ensures in
-    omega (arith, counted-bound (counted-piece c.loop-x.invariant c.find_either.ensures p.front p.back))
+pub overflow_add-n-else-is_escaped : goal.overflow_add-n-else-is_escaped
+overflow_add-n-else-is_escaped c =
+    let p = c.split_at-else-is_escaped.ensures in
+    omega (arith, counted-bound (counted-piece c.loop-x.invariant c.plain_len.ensures p.front p.back))
 
 pub loop-x-smaller : goal.loop-x-smaller
 loop-x-smaller c =
-    let p = c.split_at-else-value-rest.ensures in
+    let p = c.split_at-else-is_escaped.ensures in
     let t = sym c.is_escaped.ensures ∙ c.if-is_escaped.false in
-    piece-smaller c.loop-x.rest.now c.find_either.ensures p.front p.back c.in-Some.ensures.cases.0 t
+    piece-smaller c.loop-x.rest.now c.plain_len.ensures p.front p.back c.in-Some.ensures.cases.0 t
 
 pub loop-x-preserved : goal.loop-x-preserved
 loop-x-preserved c =
-    let p = c.split_at-else-value-rest.ensures in
-    counted-piece c.loop-x.invariant c.find_either.ensures p.front p.back
+    let p = c.split_at-else-is_escaped.ensures in
+    counted-piece c.loop-x.invariant c.plain_len.ensures p.front p.back
 
 pub returns : goal.returns
 returns c = counted-all c.loop-x.invariant c.in_default.ensures.cases

@@ -1,13 +1,36 @@
--- `encoding::plain_len` meets its contract.
-use mathlib.Core.Path.{sym, ◌∙◌}
+-- `encoding::plain_len` meets its contract. The loop's invariant: the bytes up to i stand for themselves.
+use Prim.Native.Nat.{ℕ, ◌+◌}
+use mathlib.Core.Path.{◌≡◌, sym, ap, ◌∙◌}
 use native.Mathlib.Omega.{arith}
-use Rattle.encoding.proofs.PlainLaws.{near-found, near-none}
+use lib.ListN.{drop}
+use lib.Seq.{length-take-le, get_or-take}
+use Rattle.lists.specs.Helpers.{until_either}
+use Rattle.values.specs.Value.{escaped}
+use Rattle.encoding.proofs.PlainLaws.{near-here, near-next}
 use Rattle.encoding.proofs.plain_len.Goals as goal
 
-pub returns-in-Some : goal.returns-in-Some
-returns-in-Some c = near-found c.min-near.result c.args.bytes.now c.in-Some.n (sym c.in-Some.is ∙ c.first_escaped.ensures)
+pub returns-then-is_escaped : goal.returns-then-is_escaped
+returns-then-is_escaped c =
+    let k = c.min-near.result in
+    let s = c.args.bytes.now in
+    let i = c.loop-i.i in
+    let n = length-take-le k s (omega (arith, c.min-near.ensures)) in
+    near-here s i c.loop-i.invariant (omega (arith, n, c.min-near.ensures))
+    (ap escaped (sym (get_or-take k s i 0 (omega (arith, n)))) ∙ sym c.is_escaped.ensures ∙ c.if-is_escaped.true)
 
-pub returns-in-None : goal.returns-in-None
-returns-in-None c =
-    near-none c.min-near.result c.args.bytes.now (omega (arith, c.min-near.ensures)) (sym c.in-None.is ∙ c.first_escaped.ensures) _
-    c.find_either.ensures
+pub loop-i-preserved : goal.loop-i-preserved
+loop-i-preserved c =
+    let k = c.min-near.result in
+    let s = c.args.bytes.now in
+    let i = c.loop-i.i in
+    let n = length-take-le k s (omega (arith, c.min-near.ensures)) in
+    near-next s i c.loop-i.invariant (omega (arith, n, c.min-near.ensures))
+    (ap escaped (sym (get_or-take k s i 0 (omega (arith, n)))) ∙ sym c.is_escaped.ensures ∙ c.if-is_escaped.false)
+
+pub returns : goal.returns
+returns c =
+    let k = c.min-near.result in
+    let s = c.args.bytes.now in
+    let n = length-take-le k s (omega (arith, c.min-near.ensures)) in
+    let e : c.loop-i.i ≡ k = omega (arith, n) in
+    c.find_either.ensures ∙ ap (λ (j : ℕ). j + until_either 0 255 (drop j s)) (sym e) ∙ sym c.loop-i.invariant

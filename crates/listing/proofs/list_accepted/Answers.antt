@@ -1,13 +1,13 @@
 -- `list_accepted` meets its contract: the pieces of the text stand one after the other.
 use Prim.Native.Nat.{◌+◌, ◌≤◌}
-use mathlib.Core.Path.{◌≡◌, refl, ◌∙◌}
+use mathlib.Core.Path.{◌≡◌, refl}
 use borrow.Author.Rules.{rules}
 use native.Mathlib.Omega.{arith}
 use lib.ListN.{length}
 use Rattle.partitions.specs.Walk.{walk}
 use Rattle.listing.proofs.PieceLaws.{listed-short}
 use Rattle.listing.proofs.WriterLaws.{wrote_then, listed-written}
-use Rattle.listing.proofs.TextLaws.{text-by-fits, measured-covered, measured-pieces, measured-lines, measured-length}
+use Rattle.listing.proofs.TextLaws.{text-by-fits, measured-pieces, measured-length}
 use Rattle.listing.specs.Text.{decimal, text_by}
 use Rattle.listing.proofs.list_accepted.Goals as goal
 use Rattle.listing.proofs.list_accepted.Goals.{After-decimal_len}
@@ -28,33 +28,11 @@ overflow_add-bytes-2 c = omega (arith, sized (goal.at.overflow_add-bytes-2 c).Af
 
 pub returns-then-text-bytes : goal.returns-then-text-bytes
 returns-then-text-bytes c =
-    let a = c.args in
-    let t = listed-short (text_by a.image.now (walk a.image.now)) a.text.now
-    (omega (arith, sized (goal.at.returns-then-text-bytes c).After-decimal_len)) in
-    record { value = t.0; text_after = t.1 }
-
-pub put_lines-requires : goal.put_lines-requires
-put_lines-requires c =
-    let a = c.args in
-    let m = c.requires.image_value in
-    record {
-      covered = measured-covered a.image.now a.lines m;
-      image_in_bounds = omega (arith, measured-lines a.image.now a.lines m);
-    }
-
-pub put_decimal-requires : goal.put_decimal-requires
-put_decimal-requires c =
-    let a = c.args in
-    omega (arith, measured-lines a.image.now a.lines c.requires.image_value)
-
-pub put-requires-2 : goal.put-requires-2
-put-requires-2 c =
-    let a = c.args in
-    omega (arith, measured-lines a.image.now a.lines c.requires.image_value)
+    listed-short (text_by c.args.image.now (walk c.args.image.now)) c.args.text.now
+    (omega (arith, sized (goal.at.returns-then-text-bytes c).After-decimal_len))
 
 pub returns : goal.returns
 returns c =
     let all = wrote_then (wrote_then (wrote_then c.put.ensures c.put_lines.ensures) c.put_decimal.ensures) c.put-2.ensures in
     let same = all.same in
-    let t = listed-written refl all (measured-pieces c.args.image.now c.args.lines c.requires.image_value) in
-    record { value = t.0; text_after = search rules ∙ t.1 }
+    listed-written refl all (measured-pieces c.args.image.now c.args.lines c.requires.image_value) (search rules)

@@ -1,5 +1,5 @@
 -- `list_refused` meets its contract: the pieces of the text stand one after the other.
-use mathlib.Core.Path.{refl, ◌∙◌}
+use mathlib.Core.Path.{refl}
 use borrow.Author.Rules.{rules}
 use mathlib.Core.List.{[]}
 use native.Mathlib.Omega.{arith}
@@ -12,15 +12,13 @@ use Rattle.listing.proofs.list_refused.Goals as goal
 
 pub returns-then-text-digits : goal.returns-then-text-digits
 returns-then-text-digits c =
-    let a = c.args in
-    let t = listed-short (text_by [] (broken a.e)) a.text.now
-    (omega (arith, refused-length a.e c.code-code.result c.offset-offset.result c.code-code.ensures c.offset-offset.ensures)) in
-    record { value = t.0; text_after = t.1 }
+    listed-short (text_by [] (broken c.args.e)) c.args.text.now
+    (omega (arith, refused-length c.args.e c.code-code.result c.offset-offset.result c.code-code.ensures c.offset-offset.ensures))
 
 pub returns : goal.returns
 returns c =
     let code = wrote_then c.put.ensures c.put_decimal.ensures in
     let all = wrote_then (wrote_then (wrote_then code c.put-2.ensures) c.put_decimal-2.ensures) c.put_byte.ensures in
     let same = all.same in
-    let t = listed-written refl all (refused-pieces c.args.e c.code-code.result c.offset-offset.result c.code-code.ensures c.offset-offset.ensures) in
-    record { value = t.0; text_after = search rules ∙ t.1 }
+    listed-written refl all (refused-pieces c.args.e c.code-code.result c.offset-offset.result c.code-code.ensures c.offset-offset.ensures)
+    (search rules)

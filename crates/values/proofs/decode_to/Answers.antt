@@ -1,11 +1,12 @@
 -- `values::decode_to` meets its contract. The loop's invariant: what is read stands in the buffer.
 use mathlib.Core.Path.{refl, sym, ap, ◌∙◌}
-use Prim.Native.Nat.{◌+◌, ◌-◌}
+use Prim.Native.Nat.{◌+◌, ◌-◌, ◌<◌}
 use native.Mathlib.Omega.{arith}
 use lib.ListN.{length}
 use borrow.Rule.Slice.PartMut.{put_mid, mid_len}
 use Rattle.lists.specs.Pasted.{pasted}
 use Rattle.values.proofs.DecodeTurns.{decoding-none, piece-room, piece-turn, few-room, few-turn, decoding-same, decoding-all, decode-begins, none-left}
+use Rattle.values.proofs.StopLaws.{few-next, fewer-left}
 use Rattle.values.proofs.WrittenLaws.{tail-copied, tail-put}
 use borrow.Author.Rules.{rules}
 use Rattle.values.proofs.decode_to.Goals as goal
@@ -32,6 +33,14 @@ overflow_add-put-in-loop-rest c =
     let r = piece-room l.invariant _ _ p.plain p.opened_after in
     let s = piece-turn l.invariant _ _ p.plain p.opened_after (tail-copied l.buffer l.put _ c.copy.new.to r c.copy.ensures) in
     omega (arith, few-room s _ k.front k.back f.opened_after, f.len, decoding-same s)
+
+pub split_at-requires : goal.split_at-requires
+split_at-requires c = omega (arith, (few-next _ c.next_stop.ensures).inside)
+
+pub loop-rest-smaller : goal.loop-rest-smaller
+loop-rest-smaller c =
+    let h : 0 < length c.loop-rest.rest.now = search rules in
+    fewer-left _ _ _ _ _ h c.split_plain.ensures.rest_left (few-next _ c.next_stop.ensures) c.split_at.ensures.back_len
 
 pub loop-rest-preserved : goal.loop-rest-preserved
 loop-rest-preserved c =
