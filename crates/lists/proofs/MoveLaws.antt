@@ -1,11 +1,11 @@
 -- What a move leaves, and what filling a lent part does.
 use mathlib.Core.Path.{◌≡◌, sym, ap, ◌∙◌}
-use mathlib.Core.List.{List, ◌++◌}
+use mathlib.Core.List.{List, ◌++◌, append_assoc}
 use Prim.Native.Nat.{ℕ, ◌+◌, ◌-◌, ◌<◌, ◌≤◌}
 use native.Mathlib.Omega.{arith}
 use borrow.Author.Tests.{le-leb, lt-leb}
-use lib.ListN.{length, take, drop, replicate, length-drop, length-replicate}
-use lib.Seq.{length-take-le}
+use lib.ListN.{length, take, drop, replicate, length-drop, length-replicate, take-append-drop}
+use lib.Seq.{length-take-le, drop-drop}
 use borrow.Rule.Slice.PartMut.{put_mid, mid_of, mid_len}
 use Rattle.std.specs.List.{copy_within}
 use Rattle.lists.specs.Pasted.{pasted}
@@ -43,3 +43,15 @@ module _ (d : List ℕ) (from to n : ℕ) where
       let w : length (take n (drop from d)) ≡ n = length-take-le n (drop from d) (omega (arith, length-drop from d)) in
       ap (λ (j : ℕ). take to d ++ take j (drop from d) ++ drop (to + j) d) m
       ∙ ap (λ (j : ℕ). take to d ++ take n (drop from d) ++ drop (to + j) d) (sym w) ∙ moved_inside h k l
+
+  -- bytes that stay where they are
+  pub moved_same : n ≤ length d → from ≤ length d - n → to ≤ length d - n → from ≡ to → d ≡ moved_bytes d from to n
+  unfolding pasted
+  moved_same h k l e =
+      let w = take n (drop from d) in
+      let m : length w ≡ n = length-take-le n (drop from d) (omega (arith, length-drop from d)) in
+      sym (ap (λ (j : ℕ). take to d ++ w ++ drop (to + j) d) m ∙ append_assoc (take to d) w (drop (to + n) d)
+      ∙ ap (λ (r : List ℕ). take to d ++ r)
+      (ap (λ (r : List ℕ). w ++ r) (sym (drop-drop n to d)) ∙ ap (λ (j : ℕ). take n (drop j d) ++ drop n (drop to d)) e ∙ take-append-drop n (drop to d))
+      ∙ take-append-drop to d)
+      ∙ moved_inside h k l

@@ -21,12 +21,13 @@ pub fn fill(s: &mut [u8], b: u8)
     s.fill(b);
 }
 
-// Moves the n bytes at `from` to `to`, where both lie inside the slice; they may overlap.
+// Moves the n bytes at `from` to `to`, where both lie inside the slice; they may overlap. Bytes that stay are not copied, since
+// the compiler makes no vector of such a copy.
 pub fn move_bytes(s: &mut [u8], from: usize, to: usize, n: usize)
     ensures { s.new ≡ moved_bytes s.old from to n }
 {
     let len = s.len();
-    if n <= len && from <= len - n && to <= len - n {
+    if n <= len && from <= len - n && to <= len - n && from != to {
         s.copy_within(from..from + n, to);
     }
 }
