@@ -1,28 +1,26 @@
--- The turns of the loops that encode: at the offset i of the value, and at the escape k of a run.
+-- The turns of the loops that encode: at the bytes that are left of the value, and at the escape k of a run.
 use Prim.Native.Nat.{ℕ, suc, ◌+◌, ◌-◌, ◌*◌, ◌/◌, ◌%◌, ◌≤◌, ◌<◌}
 use mathlib.Core.Path.{◌≡◌, refl, sym, ap, ◌∙◌}
 use mathlib.Core.Bool.{true, false}
 use mathlib.Core.List.{List, [], ◌∷◌, ◌++◌}
 use mathlib.Core.Logic.{◌≢◌}
 use native.Mathlib.Omega.{arith}
-use lib.ListN.{length, get_or, set, take, drop, replicate, length-append, length-drop, length-replicate, drop_of_length-le}
+use lib.ListN.{length, set, take, drop, replicate, length-append, length-drop, length-replicate, take-append-drop}
 use lib.Dec.{eqb}
-use lib.Seq.{drop-drop}
+use lib.Seq.{length-take-le}
 use borrow.Author.Tests.{eqb-true, eqb-false, eq-eqb, ne_eqb}
 use Rattle.lists.specs.Pasted.{pasted}
 use Rattle.lists.proofs.Tests.{split}
 use Rattle.lists.specs.Helpers.{until_either}
-use Rattle.lists.proofs.FindLaws.{either-further, either-piece, either-plain, plain-length}
+use Rattle.lists.proofs.FindLaws.{until-short, until-before, until-next}
 use Rattle.lists.proofs.PastedLaws.{set-pasted, set_after}
-use Rattle.lists.proofs.Grown.{Grown, grown-none, grown-as, grown-same, grown-piece, grown-byte, grown-all, grown-end}
+use Rattle.lists.proofs.Grown.{Grown, grown-none, grown-as, grown-same, grown-piece, grown-all, grown-end, grown-left}
 use Rattle.values.specs.Value.{mark, full_escapes, rest_escape, run_bytes, escaped, encode}
-use Rattle.values.specs.Helpers.{part}
 use Rattle.encoding.specs.Helpers.{leading}
 use Rattle.values.specs.Rules.{Begins}
-use Rattle.lists.proofs.ListLaws.{drop-next}
-use Rattle.lists.proofs.Grown.{grown-left}
-use Rattle.values.proofs.EncodeLaws.{escaped-zero, escaped-ff, rest-none, rest_some, length-run-bytes, length-encode}
-use Rattle.values.proofs.CanonicalLaws.{encode-longest, encode-itself, encode-piece, encode-empty}
+use Rattle.values.proofs.EncodeLaws.{rest-none, rest_some, length-run-bytes, length-encode}
+use Rattle.values.proofs.DecodeTurns.{none-left}
+use Rattle.values.proofs.CanonicalLaws.{encode-longest, encode-piece, encode-empty}
 
 -- ---- the bytes at the start that are b
 
@@ -32,7 +30,7 @@ leading-none b = refl
 
 pub leading-same : (b x : ℕ) (xs : List ℕ) → x ≡ b → leading b (x ∷ xs) ≡ suc (leading b xs)
 unfolding leading
-leading-same b x xs e = rw (eq-eqb x b e)
+leading-same b x xs e = rw (eq-eqb x b e) (omega arith)
 
 pub leading-other : (b x : ℕ) (xs : List ℕ) → x ≢ b → leading b (x ∷ xs) ≡ 0
 unfolding leading
@@ -57,157 +55,119 @@ pub leading_length : (b : ℕ) (l : List ℕ) → leading b l ≤ length l
 leading_length b l =
     omega (arith, ap length (leading-run b l), length-append (replicate (leading b l) b) (drop (leading b l) l), length-replicate (leading b l) b)
 
--- the loop that finds a run's end
-module _ (v : List ℕ) (from b e : ℕ) (s : from + leading b (drop from v) ≡ e + leading b (drop e v)) where
-  pub end-next : e < length v → get_or v e 0 ≡ b → from + leading b (drop from v) ≡ e + 1 + leading b (drop (e + 1) v)
-  end-next h q = s ∙ omega (arith, ap (leading b) (drop-next v e h), leading-same b (get_or v e 0) (drop (e + 1) v) q)
+-- ---- one turn of `encode`, at the first byte x of what is left of the value
 
-  pub end-found : e < length v → get_or v e 0 ≢ b → e ≡ from + leading b (drop from v)
-  end-found h q = sym (s ∙ omega (arith, ap (leading b) (drop-next v e h), leading-other b (get_or v e 0) (drop (e + 1) v) q))
+module _ {r : List ℕ} {x : ℕ} {l : List ℕ} (e : r ≡ x ∷ l) where
+  some : leading x r ≢ 0
+  some z = omega (arith, ap (leading x) e, leading-same x x l refl)
 
-  pub end-last : length v ≤ e → e ≡ from + leading b (drop from v)
-  end-last h = sym (s ∙ omega (arith, ap (leading b) (drop_of_length-le v h), leading-none b))
+  -- a run p, and the bytes s after it
+  module _ {k : ℕ} {p s : List ℕ} (q : k ≡ leading x r) (f : p ≡ take k r) (g : s ≡ drop k r) where
+    run-long : length p ≡ k
+    run-long = ap length f ∙ length-take-le k r (omega (arith, leading_length x r))
 
--- ---- one turn of `encode`
+    pub run-smaller : length s < length r
+    run-smaller = omega (arith, some, ap length g, length-drop k r, leading_length x r)
 
-module _ (v : List ℕ) (i : ℕ) (h : i < length v) where
-  pub encode-plain-at : escaped (get_or v i 0) ≡ false → encode (drop i v) ≡ get_or v i 0 ∷ encode (drop (i + 1) v)
-  encode-plain-at t = ap encode (drop-next v i h) ∙ encode-itself (get_or v i 0) (drop (i + 1) v) t
+    encode-run : escaped x ≡ true → encode r ≡ run_bytes x (length p) ++ encode s
+    encode-run t =
+        ap encode (leading-run x r) ∙ encode-longest x (leading x r) (drop (leading x r) r) t some (leading-longest x r)
+        ∙ (let n : leading x r ≡ length p = omega (arith, run-long) in ap (λ (m : ℕ). run_bytes x m ++ encode (drop (leading x r) r)) n)
+        ∙ (let c : drop (leading x r) r ≡ s = ap (λ (m : ℕ). drop m r) (sym q) ∙ sym g in ap (λ (w : List ℕ). run_bytes x (length p) ++ encode w) c)
 
-  module _ (e : ℕ) (q : e ≡ i + leading (get_or v i 0) (drop i v)) where
-    some : leading (get_or v i 0) (drop i v) ≢ 0
-    some z = omega (arith, ap (leading (get_or v i 0)) (drop-next v i h), leading-same (get_or v i 0) (get_or v i 0) (drop (i + 1) v) refl)
+-- a piece p without 0x00 and 0xFF, and the bytes s after it
+module _ (r : List ℕ) {k : ℕ} {p s : List ℕ} (q : k ≡ until_either 0 255 r) (f : p ≡ take k r) (g : s ≡ drop k r) where
+  encode-plain : encode r ≡ p ++ encode s
+  encode-plain =
+      rw (f, g) (ap encode (sym (take-append-drop k r)) ∙ encode-piece (take k r) (drop k r) (rw (sym q) at (until-before 0 255 r)))
 
-    pub run-ahead : i < e
-    run-ahead = omega (arith, some)
+  pub piece-inside : k ≤ length r
+  piece-inside = omega (arith, until-short 0 255 r)
 
-    pub run_inside : e ≤ length v
-    run_inside = omega (arith, leading_length (get_or v i 0) (drop i v), length-drop i v)
+  pub piece-smaller : {x : ℕ} {l : List ℕ} → r ≡ x ∷ l → escaped x ≡ false → length s < length r
+  piece-smaller {x} {l} e t = omega (arith, ap (until_either 0 255) e ∙ until-next 0 255 x l t, piece-inside, ap length g, length-drop k r, ap length e)
 
-    pub encode-run-at : escaped (get_or v i 0) ≡ true → encode (drop i v) ≡ run_bytes (get_or v i 0) (e - i) ++ encode (drop e v)
-    encode-run-at t =
-        let x : ℕ = get_or v i 0 in
-        let n : ℕ = leading x (drop i v) in
-        let k : n ≡ e - i = omega arith in
-        let d : drop n (drop i v) ≡ drop e v = drop-drop n i v ∙ ap (λ (m : ℕ). drop m v) (sym q) in
-        ap encode (leading-run x (drop i v))
-        ∙ encode-longest x n (drop n (drop i v)) t some (leading-longest x (drop i v))
-        ∙ ap (λ (m : ℕ). run_bytes x m ++ encode (drop n (drop i v))) k
-        ∙ ap (λ (r : List ℕ). run_bytes x (e - i) ++ encode r) d
+-- ---- the loop that counts: n bytes, and the canonical form of the bytes r that are left, are the whole length
 
-pub encode-end : (v : List ℕ) (i : ℕ) → length v ≤ i → encode (drop i v) ≡ []
-encode-end v i h = ap encode (drop_of_length-le v h) ∙ encode-empty
+pub record Counted (v r : List ℕ) (n : ℕ) : Type 0 where
+  pub sum : n + length (encode r) ≡ length (encode v)
+  pub left : length r ≤ length v
 
--- ---- the loop that counts
+pub counted_none : (v : List ℕ) → Counted v v 0
+counted_none v = record { sum = omega arith; left = omega arith }
 
--- a piece without 0x00 and 0xFF
-module _ (v : List ℕ) (i : ℕ) {e : ℕ} (q : e ≡ i + until_either 0 255 (drop i v)) where
-  encode-part-at : encode (drop i v) ≡ part v i e ++ encode (drop e v)
-  unfolding part
-  encode-part-at = ap encode (either-piece v i 0 255 q) ∙ encode-piece (take (e - i) (drop i v)) (drop e v) (either-plain v i 0 255 q)
-
-  length-part-at : i ≤ length v → length (part v i e) ≡ e - i
-  unfolding part
-  length-part-at h = plain-length v i 0 255 (omega arith) (omega arith) h
-
-  pub piece-ahead : i < length v → escaped (get_or v i 0) ≡ false → i < e
-  piece-ahead h t = either-further v i 0 255 q h (escaped-zero (get_or v i 0) t) (escaped-ff (get_or v i 0) t)
-
-pub record Counted (v : List ℕ) (i n : ℕ) : Type 0 where
-  pub sum : n + length (encode (drop i v)) ≡ length (encode v)
-
-pub counted_none : (v : List ℕ) → Counted v 0 0
-counted_none v = record { sum = omega arith }
-
-module _ {v : List ℕ} {i n : ℕ} (s : Counted v i n) where
+module _ {v r : List ℕ} {n : ℕ} (s : Counted v r n) where
   pub counted-bound : n ≤ 2 * length v
   counted-bound = omega (arith, s.sum, length-encode v)
 
-  pub counted-plain : i < length v → escaped (get_or v i 0) ≡ false → Counted v (i + 1) (n + 1)
-  counted-plain h t = record { sum = omega (arith, s.sum, ap length (encode-plain-at v i h t)) }
-
-  pub counted-piece : i ≤ length v → {e : ℕ} → e ≡ i + until_either 0 255 (drop i v) → Counted v e (n + (e - i))
-  counted-piece h {e} q = record {
+  pub counted-run : {x : ℕ} {l : List ℕ} → r ≡ x ∷ l → escaped x ≡ true → {k : ℕ} {p w : List ℕ} → k ≡ leading x r → p ≡ take k r → w ≡ drop k r
+      → {m : ℕ} → m ≡ length (run_bytes 0 (length p)) → Counted v w (n + m)
+  counted-run {x} e t {k} {p} {w} q f g h = record {
     sum =
         omega (
           arith,
           s.sum,
-          ap length (encode-part-at v i q),
-          length-append (part v i e) (encode (drop e v)),
-          length-part-at v i q h,
+          ap length (encode-run e q f g t),
+          length-append (run_bytes x (length p)) (encode w),
+          length-run-bytes x (length p),
+          length-run-bytes 0 (length p),
         );
+    left = omega (arith, s.left, run-smaller e q f g);
   }
 
-  pub counted-run : i < length v → escaped (get_or v i 0) ≡ true → {e k : ℕ} → e ≡ i + leading (get_or v i 0) (drop i v) → k ≡ length (run_bytes 0 (e - i))
-      → Counted v e (n + k)
-  counted-run h t {e} {k} q f = record {
-    sum =
-        omega (
-          arith,
-          s.sum,
-          ap length (encode-run-at v i h e q t),
-          length-append (run_bytes (get_or v i 0) (e - i)) (encode (drop e v)),
-          length-run-bytes (get_or v i 0) (e - i),
-          length-run-bytes 0 (e - i),
-        );
+  pub counted-piece : {k : ℕ} {p w : List ℕ} → k ≡ until_either 0 255 r → p ≡ take k r → w ≡ drop k r → Counted v w (n + length p)
+  counted-piece {k} {p} {w} q f g = record {
+    sum = omega (arith, s.sum, ap length (encode-plain r q f g), length-append p (encode w));
+    left = omega (arith, s.left, ap length g, length-drop k r);
   }
 
-  pub counted-all : length v ≤ i → n ≡ length (encode v)
-  counted-all h = omega (arith, s.sum, ap length (encode-end v i h))
+  pub counted-all : length r ≡ 0 → n ≡ length (encode v)
+  counted-all h = omega (arith, s.sum, ap length (ap encode (none-left r h) ∙ encode-empty))
 
 -- ---- the loop that writes: the first o bytes are in the buffer, which was d and is b
 
-pub record Encoding (v d : List ℕ) (i o : ℕ) (b : List ℕ) : Type 0 where
-  pub grown : Grown (encode v) d 0 o (encode (drop i v)) b
+pub record Encoding (v d r : List ℕ) (o : ℕ) (b : List ℕ) : Type 0 where
+  pub grown : Grown (encode v) d 0 o (encode r) b
   pub fits : length (encode v) ≤ length d
+  pub left : length r ≤ length v
 
-pub encoding-none : (v d : List ℕ) → length (encode v) ≤ length d → Encoding v d 0 0 d
-encoding-none v d h = record { grown = grown-none (encode v) d 0 (omega arith); fits = h }
+pub encoding-none : (v d : List ℕ) → length (encode v) ≤ length d → Encoding v d v 0 d
+encoding-none v d h = record { grown = grown-none (encode v) d 0 (omega arith); fits = h; left = omega arith }
 
-module _ {v d : List ℕ} {i o : ℕ} {b : List ℕ} (s : Encoding v d i o b) where
+module _ {v d r : List ℕ} {o : ℕ} {b : List ℕ} (s : Encoding v d r o b) where
   pub encoding-same : length b ≡ length d
   encoding-same = grown-same s.grown
 
-  left-fits : o + length (encode (drop i v)) ≤ length d
+  left-fits : o + length (encode r) ≤ length d
   left-fits = grown-left s.grown (omega (arith, s.fits))
 
-  pub byte-room : i < length v → escaped (get_or v i 0) ≡ false → o < length b
-  byte-room h t = omega (arith, encoding-same, left-fits, ap length (encode-plain-at v i h t))
+  module _ {x : ℕ} {l : List ℕ} (e : r ≡ x ∷ l) where
+    module _ (t : escaped x ≡ true) {k : ℕ} {p w : List ℕ} (q : k ≡ leading x r) (f : p ≡ take k r) (g : w ≡ drop k r) where
+      pub run_fits : o + length (run_bytes x (length p)) ≤ length b
+      run_fits = omega (arith, encoding-same, left-fits, ap length (encode-run e q f g t), length-append (run_bytes x (length p)) (encode w))
 
-  pub byte-turn : i < length v → escaped (get_or v i 0) ≡ false → Encoding v d (i + 1) (o + 1) (set b o (get_or v i 0))
-  byte-turn h t = record {
-    grown = grown-byte s.grown (get_or v i 0) (encode (drop (i + 1) v)) (encode-plain-at v i h t) (omega (arith, byte-room h t, encoding-same));
-    fits = s.fits;
-  }
+      pub run-turn : {m : ℕ} {b' : List ℕ} → m ≡ length (run_bytes x (length p)) → b' ≡ pasted b o (run_bytes x (length p)) → Encoding v d w (o + m) b'
+      run-turn h u = record {
+        grown =
+            grown-piece s.grown (run_bytes x (length p)) (encode w) (encode-run e q f g t) (omega (arith, run_fits, encoding-same))
+            (ap (λ (n : ℕ). o + n) h) u;
+        fits = s.fits;
+        left = omega (arith, s.left, run-smaller e q f g);
+      }
 
-  module _ (h : i ≤ length v) {e : ℕ} (q : e ≡ i + until_either 0 255 (drop i v)) where
-    pub piece-room : o + (e - i) ≤ length b
-    piece-room =
-        omega (arith, encoding-same, left-fits, ap length (encode-part-at v i q), length-append (part v i e) (encode (drop e v)), length-part-at v i q h)
+  module _ {k : ℕ} {p w : List ℕ} (q : k ≡ until_either 0 255 r) (f : p ≡ take k r) (g : w ≡ drop k r) where
+    pub piece-room : o + length p ≤ length b
+    piece-room = omega (arith, encoding-same, left-fits, ap length (encode-plain r q f g), length-append p (encode w))
 
-    pub piece-turn : {b' : List ℕ} → b' ≡ pasted b o (part v i e) → Encoding v d e (o + (e - i)) b'
+    pub piece-turn : {b' : List ℕ} → b' ≡ pasted b o p → Encoding v d w (o + length p) b'
     piece-turn u = record {
-      grown =
-          grown-piece s.grown (part v i e) (encode (drop e v)) (encode-part-at v i q)
-          (omega (arith, piece-room, encoding-same, length-part-at v i q h)) (omega (arith, length-part-at v i q h)) u;
+      grown = grown-piece s.grown p (encode w) (encode-plain r q f g) (omega (arith, piece-room, encoding-same)) refl u;
       fits = s.fits;
+      left = omega (arith, s.left, ap length g, length-drop k r);
     }
 
-  module _ (h : i < length v) (t : escaped (get_or v i 0) ≡ true) {e : ℕ} (q : e ≡ i + leading (get_or v i 0) (drop i v)) where
-    pub run_fits : o + length (run_bytes (get_or v i 0) (e - i)) ≤ length b
-    run_fits =
-        omega (arith, encoding-same, left-fits, ap length (encode-run-at v i h e q t), length-append (run_bytes (get_or v i 0) (e - i)) (encode (drop e v)))
-
-    pub run-turn : {o' : ℕ} {b' : List ℕ} → o' ≡ o + length (run_bytes (get_or v i 0) (e - i)) → b' ≡ pasted b o (run_bytes (get_or v i 0) (e - i))
-        → Encoding v d e o' b'
-    run-turn f u = record {
-      grown =
-          grown-piece s.grown (run_bytes (get_or v i 0) (e - i)) (encode (drop e v)) (encode-run-at v i h e q t) (omega (arith, run_fits, encoding-same)) f u;
-      fits = s.fits;
-    }
-
-  pub encoding-all : length v ≤ i → b ≡ pasted d 0 (encode v)
-  encoding-all h = grown-all s.grown (encode-end v i h)
+  pub encoding-all : length r ≡ 0 → b ≡ pasted d 0 (encode v)
+  encoding-all h = grown-all s.grown (ap encode (none-left r h) ∙ encode-empty)
 
 -- ---- the loop that writes a run's escapes of 127: k of them are in the buffer
 

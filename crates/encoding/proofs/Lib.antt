@@ -1,4 +1,6 @@
+pub mod UntilLaws
 pub mod RecodeLaws
+pub mod PlainLaws
 pub mod SpellingTurns
 pub mod EncodeTurns
 pub mod RecodeTurns

@@ -14,7 +14,7 @@ use Rattle.lists.proofs.MoveLaws.{moved_inside}
 use Rattle.lists.specs.Bytes.{AllBytes}
 use Rattle.lists.proofs.Tests.{split, clash, and-true}
 use Rattle.lists.proofs.ByteLaws.{every_take, every_drop}
-use Rattle.values.specs.declared.Written.TheVariants.{Length, NoRoom}
+use Rattle.std.specs.Prelude.{Some, None}
 use Rattle.values.specs.Value.{decode, spelled, mark, encode_from}
 use Rattle.values.specs.Helpers.{part, recodable, recoded, recoded_of, recoded_in}
 use Rattle.values.specs.Rules.{Spells}
@@ -60,12 +60,12 @@ module _ (area : List ℕ) (from to at : ℕ) where
   not-recodable : ¬ (Recodable area from to at) → recodable area from to at ≡ false
   not-recodable n = split (recodable area from to at) (λ t. absurd (n (recodable-told t))) (λ t. t)
 
-  pub recoded-refused : ¬ (Recodable area from to at) → (NoRoom ≡ recoded_of area from to at) × (area ≡ recoded_in area from to at)
+  pub recoded-refused : ¬ (Recodable area from to at) → (None ≡ recoded_of area from to at) × (area ≡ recoded_in area from to at)
   unfolding recoded_of recoded_in
   recoded-refused n = (rw (not-recodable n), rw (not-recodable n))
 
   -- from the test of the part that was lent
-  pub recoded-unspelled : spelled (take (to - from) (drop from area)) ≡ false → (NoRoom ≡ recoded_of area from to at) × (area ≡ recoded_in area from to at)
+  pub recoded-unspelled : spelled (take (to - from) (drop from area)) ≡ false → (None ≡ recoded_of area from to at) × (area ≡ recoded_in area from to at)
   unfolding part
   recoded-unspelled e = recoded-refused (λ r. clash (cc (r.valid, e)))
 
@@ -74,11 +74,11 @@ module _ (area : List ℕ) (from to at : ℕ) where
   recodable-now h k l e = record { before = h; order = k; inside = l; valid = e }
 
   pub recoded-taken : Recodable area from to at → {e : ℕ} {b : List ℕ} → e ≡ at + length (recoded area from to) → b ≡ pasted area at (recoded area from to)
-      → (Length (e - at) ≡ recoded_of area from to at) × (b ≡ recoded_in area from to at)
+      → (Some (e - at) ≡ recoded_of area from to at) × (b ≡ recoded_in area from to at)
   unfolding recoded_of recoded_in
   recoded-taken r {e} q f =
       let k : e - at ≡ length (recoded area from to) = omega arith in
-      (rw (recodable-true r) (ap Length k), rw (recodable-true r) f)
+      (rw (recodable-true r) (ap Some k), rw (recodable-true r) f)
 
 -- an open run of more than 127 has a full escape
 pub encode-full : (b k : ℕ) (t : List ℕ) → encode_from b (127 + k) t ≡ (255 ∷ (mark b + 127) ∷ []) ++ encode_from b k t

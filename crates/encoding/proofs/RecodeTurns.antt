@@ -18,8 +18,7 @@ use Rattle.lists.proofs.Tests.{split}
 use Rattle.lists.proofs.Grown.{Grown, grown-none, grown-same, grown-after, grown-as, grown-piece, grown-all, grown-end}
 use Rattle.values.specs.Value.{run_byte, run, decode, spelled, mark, run_bytes, escaped, encode_from, encode}
 use Rattle.values.specs.Helpers.{part, recoded}
-use Rattle.values.proofs.DecodeLaws.{decode-none, decode-piece, decode-escape, spelled-piece, plain-spelled}
-use Rattle.values.proofs.DecodeLaws.{escape-spelled, cut-spelled, PlainSpelled, EscapeSpelled}
+use Rattle.values.proofs.DecodeLaws.{decode-none, decode-piece, decode-escape, spelled-piece, plain-spelled, escape-spelled, cut-spelled, PlainSpelled, EscapeSpelled}
 use Rattle.values.proofs.EncodeLaws.{length-run-bytes, encode-none, run-same, run-other}
 use Rattle.values.proofs.CanonicalLaws.{encode-after}
 use Rattle.values.proofs.PartLaws.{part-next, part_none, part_cut}
@@ -163,7 +162,7 @@ module _ {l : List ℕ} {from to at : ℕ} {b : List ℕ} {i o y n : ℕ} (s : R
             }
 
     -- a piece of k bytes without 0x00 and 0xFF
-    module _ (e : get_or b i 0 ≢ 255) {k : ℕ} (q : k ≡ 0 + until_either 0 255 (drop 0 (take (to - i) (drop i b)))) where
+    module _ (e : get_or b i 0 ≢ 255) {k : ℕ} (q : k ≡ until_either 0 255 (take (to - i) (drop i b))) where
       plain-shown : PlainSpelled (get_or l i 0) (part l (i + 1) to)
       plain-shown = plain-spelled (get_or l i 0) (part l (i + 1) to) (λ z. e (here-now ∙ z)) (ap spelled (sym first) ∙ s.valid)
 

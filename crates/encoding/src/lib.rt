@@ -8,62 +8,6 @@ ghost use Rattle.values.specs.Value.{spelled, escaped, mark, run_bytes, encode, 
 ghost use Rattle.values.specs.Helpers.{recodable, recoded, recoded_of, recoded_in};
 ghost use Rattle.encoding.specs.Helpers.{leading};
 
-use values::Written;
-
-// The end of the bytes from `from` on that are looked at one by one.
-fn near_end(from: usize, len: usize) -> usize
-    requires { from ≤ len }
-    ensures { result ≤ len }
-{
-    if len - from < 16 { len } else { from + 16 }
-}
-
-// The first offset from `from` on where b or c stands, or the end: most are near, and the nearest bytes are looked at one by one.
-fn plain_end(s: &[u8], from: usize, b: u8, c: u8) -> usize
-    requires { from ≤ length s.now }
-    ensures { result ≡ from + until_either b c (drop from s.now) }
-{
-    let near = near_end(from, s.len());
-    let mut e = from;
-    while e < near {
-        let x = s[e];
-        if x == b {
-            return e;
-        }
-        if x == c {
-            return e;
-        }
-        e += 1;
-    }
-    lists::find_either(s, e, b, c)
-}
-
-// Whether stored bytes stand for a value.
-fn is_spelled(stored: &[u8]) -> bool
-    ensures { result ≡ spelled stored.now }
-{
-    let mut i = 0;
-    while i < stored.len() {
-        let b = stored[i];
-        if b == 0 {
-            return false;
-        }
-        if b == 255 {
-            i += 1;
-            if stored.len() <= i {
-                return false;
-            }
-            if stored[i] % 128 == 0 {
-                return false;
-            }
-            i += 1;
-        } else {
-            i = plain_end(stored, i, 0, 255);
-        }
-    }
-    true
-}
-
 // The top bit of an escape's second byte, by the byte that it repeats.
 fn mark_of(b: u8) -> u8
     ensures { (result ≡ mark b) × (result ≤ 128) }
@@ -75,24 +19,56 @@ fn mark_of(b: u8) -> u8
 fn is_escaped(x: u8) -> bool
     ensures { result ≡ escaped x }
 {
-    if x == 0 {
-        return true;
-    }
-    x == 255
+    x == 0 || x == 255
 }
 
-// The offset after the longest run of b that starts at `from`.
-fn run_end(value: &[u8], from: usize, b: u8) -> usize
-    ensures { result ≡ from + leading b (drop from value.now) }
+// How many bytes are looked at one by one after an escape, where the next is often near.
+const NEAR: usize = 16;
+
+// How many bytes stand before the first that does not stand for itself: the nearest are looked at one by one, as many as `few`.
+fn plain_len(bytes: &[u8], few: usize) -> usize
+    ensures { result ≡ until_either 0 255 bytes.now }
 {
-    let mut e = from;
-    while e < value.len() {
-        if value[e] != b {
-            return e;
+    let near = bytes.len().min(few);
+    for (i, x) in bytes[..near].iter().enumerate() {
+        if is_escaped(*x) {
+            return i;
         }
-        e += 1;
     }
-    e
+    lists::find_either(bytes, near, 0, 255)
+}
+
+// Whether stored bytes stand for a value.
+fn is_spelled(stored: &[u8]) -> bool
+    ensures { result ≡ spelled stored.now }
+{
+    let mut rest = stored;
+    while let Some((b, tail)) = rest.split_first() {
+        if *b == 0 {
+            return false;
+        }
+        if *b == 255 {
+            let Some((c, tail)) = tail.split_first() else {
+                return false;
+            };
+            if *c % 128 == 0 {
+                return false;
+            }
+            rest = tail;
+        } else {
+            let (_, tail) = rest.split_at(plain_len(rest, NEAR));
+            rest = tail;
+        }
+    }
+    true
+}
+
+// How many bytes at the start are b.
+#[tactic(auto, unfolding(crate::specs::Helpers::leading))]
+fn leading(bytes: &[u8], b: u8) -> usize
+    ensures { result ≡ leading b bytes.now }
+{
+    bytes.iter().take_while(|x| **x == b).count()
 }
 
 // The length of a run's escapes.
@@ -106,104 +82,123 @@ fn run_len(n: usize) -> usize
     2 * q + 2
 }
 
-// Writes one escape, by its second byte.
-fn put_escape(buffer: &mut [u8], at: usize, c: u8)
-    requires { at + 2 ≤ length buffer.old }
-    ensures { buffer.new ≡ pasted buffer.old at (255 ∷ c ∷ []) }
+// Writes one escape at the start of the buffer, by its second byte.
+fn put_escape(buffer: &mut [u8], c: u8)
+    requires { 2 ≤ length buffer.old }
+    ensures { buffer.new ≡ pasted buffer.old 0 (255 ∷ c ∷ []) }
 {
-    buffer[at] = 255;
-    buffer[at + 1] = c;
+    buffer[0] = 255;
+    buffer[1] = c;
 }
 
-// Writes the escapes of a run of n times b, and answers the offset after them.
-fn put_run(buffer: &mut [u8], at: usize, b: u8, n: usize) -> usize
-    requires { at + length (run_bytes b n) ≤ length buffer.old }
-    ensures value { result ≡ at + length (run_bytes b n) }
-    ensures buffer_after { buffer.new ≡ pasted buffer.old at (run_bytes b n) }
+// Writes the escapes of a run of n times b at the start of the buffer, and answers their length.
+fn put_run(buffer: &mut [u8], b: u8, n: usize) -> usize
+    requires { length (run_bytes b n) ≤ length buffer.old }
+    ensures value { result ≡ length (run_bytes b n) }
+    ensures buffer_after { buffer.new ≡ pasted buffer.old 0 (run_bytes b n) }
 {
-    let m = mark_of(b);
-    let q = n / 127;
+    let mark = mark_of(b);
+    let mut put = 0;
+    for _ in 0..n / 127 {
+        put_escape(&mut buffer[put..], mark + 127);
+        put += 2;
+    }
     let rest = n % 127;
-    let mut k = 0;
-    let mut o = at;
-    while k < q {
-        put_escape(buffer, o, m + 127);
-        o += 2;
-        k += 1;
-    }
     if rest == 0 {
-        return o;
+        return put;
     }
-    put_escape(buffer, o, m + rest as u8);
-    o + 2
+    put_escape(&mut buffer[put..], mark + rest as u8);
+    put + 2
 }
 
 // The length of a value's canonical form.
 pub fn encoded_len(value: &[u8]) -> usize
     ensures { result ≡ length (encode value.now) }
 {
-    let mut i = 0;
-    let mut n: usize = 0;
-    let mut stop = values::first_stop(value.len());
-    while i < value.len() {
-        let x = value[i];
-        if is_escaped(x) {
-            let e = run_end(value, i, x);
-            n += run_len(e - i);
-            i = e;
-        } else if i < stop {
-            n += 1;
-            i += 1;
+    let mut rest = value;
+    let mut n = 0;
+    let mut few = values::first_stop(value.len());
+    while let Some((x, _)) = rest.split_first() {
+        if is_escaped(*x) {
+            let (run, tail) = rest.split_at(leading(rest, *x));
+            n += run_len(run.len());
+            rest = tail;
         } else {
-            let e = lists::find_either(value, i, 0, 255);
-            n += e - i;
-            i = e;
-            stop = values::next_stop(e, value.len());
+            let (plain, tail) = rest.split_at(plain_len(rest, few));
+            n += plain.len();
+            rest = tail;
         }
+        few = NEAR;
     }
     n
 }
 
+// Copies the bytes before the first that does not stand for itself to the start of the buffer, and answers how many they are.
+// To count them and copy them at once takes 1.4 times as long where there is an escape every few bytes.
+fn put_near(bytes: &[u8], buffer: &mut [u8]) -> usize
+    requires { until_either 0 255 bytes.now ≤ length buffer.old }
+    ensures value { result ≡ until_either 0 255 bytes.now }
+    ensures buffer_after { buffer.new ≡ pasted buffer.old 0 (take result bytes.now) }
+{
+    for (i, x) in bytes.iter().enumerate() {
+        if is_escaped(*x) {
+            return i;
+        }
+        buffer[i] = *x;
+    }
+    bytes.len()
+}
+
+// Copies them so, the nearest one by one, as many as `few`, and the others at once.
+fn put_plain(bytes: &[u8], few: usize, buffer: &mut [u8]) -> usize
+    requires { until_either 0 255 bytes.now ≤ length buffer.old }
+    ensures value { result ≡ until_either 0 255 bytes.now }
+    ensures buffer_after { buffer.new ≡ pasted buffer.old 0 (take result bytes.now) }
+{
+    let near = bytes.len().min(few);
+    let n = put_near(&bytes[..near], buffer);
+    if n < near {
+        return n;
+    }
+    let end = lists::find_either(bytes, near, 0, 255);
+    lists::copy(&bytes[near..end], &mut buffer[near..]);
+    end
+}
+
 // Writes the canonical form of a value at the start of the buffer, which has room for it.
+// It walks as encoded_len does: a trait over which both walk would be longer than the lines that are the same.
 fn encode_to(value: &[u8], buffer: &mut [u8])
     requires { length (encode value.now) ≤ length buffer.old }
     ensures { buffer.new ≡ pasted buffer.old 0 (encode value.now) }
 {
-    let mut i = 0;
-    let mut o: usize = 0;
-    let mut stop = values::first_stop(value.len());
-    while i < value.len() {
-        let x = value[i];
-        if is_escaped(x) {
-            let e = run_end(value, i, x);
-            o = put_run(buffer, o, x, e - i);
-            i = e;
-        } else if i < stop {
-            buffer[o] = x;
-            o += 1;
-            i += 1;
+    let mut rest = value;
+    let mut put = 0;
+    let mut few = values::first_stop(value.len());
+    while let Some((x, _)) = rest.split_first() {
+        if is_escaped(*x) {
+            let (run, tail) = rest.split_at(leading(rest, *x));
+            put += put_run(&mut buffer[put..], *x, run.len());
+            rest = tail;
         } else {
-            let e = lists::find_either(value, i, 0, 255);
-            let p = o + (e - i);
-            lists::copy(&value[i..e], &mut buffer[o..p]);
-            o = p;
-            i = e;
-            stop = values::next_stop(e, value.len());
+            let (plain, tail) = rest.split_at(put_plain(rest, few, &mut buffer[put..]));
+            put += plain.len();
+            rest = tail;
         }
+        few = NEAR;
     }
 }
 
-// Writes the canonical form of a value at the start of the buffer, if there is room for all of it.
-pub fn encode(value: &[u8], buffer: &mut [u8]) -> Written
+// Writes the canonical form of a value at the start of the buffer, and answers its length; none where there is no room for all of it.
+pub fn encode(value: &[u8], buffer: &mut [u8]) -> Option<usize>
     ensures value { result ≡ written_of (encode value.now) (length buffer.old) }
     ensures buffer_after { buffer.new ≡ written_in (encode value.now) buffer.old }
 {
     let n = encoded_len(value);
     if buffer.len() < n {
-        return Written::NoRoom;
+        return None;
     }
     encode_to(value, buffer);
-    Written::Length(n)
+    Some(n)
 }
 
 // Moves the n bytes at `from` to an offset that is not after it; most stay where they are.
@@ -219,6 +214,7 @@ fn move_piece(area: &mut [u8], from: usize, to: usize, n: usize)
 
 // Writes the canonical form of the value stored from `from` up to `to` at `at`, and answers the offset after it.
 // A run of n times b is open: at most 127, so that a longer one is written as it is read.
+// It counts offsets: the bytes left to read cannot be lent as a slice while the area that they stand in is written.
 fn recode_to(area: &mut [u8], from: usize, to: usize, at: usize) -> usize
     requires { recodable area.old from to at ≡ true }
     ensures value { result ≡ at + length (recoded area.old from to) }
@@ -234,21 +230,21 @@ fn recode_to(area: &mut [u8], from: usize, to: usize, at: usize) -> usize
             let c = area[i];
             i += 1;
             let y = values::run_byte(c);
-            let k = (c % 128) as usize;
+            let k = usize::from(c % 128);
             if y != b {
-                o = put_run(area, o, b, n);
+                o += put_run(&mut area[o..], b, n);
                 b = y;
                 n = k;
             } else if n + k <= 127 {
                 n += k;
             } else {
-                put_escape(area, o, mark_of(b) + 127);
+                put_escape(&mut area[o..], mark_of(b) + 127);
                 o += 2;
                 n = n + k - 127;
             }
         } else {
-            let k = plain_end(&area[i..to], 0, 0, 255);
-            o = put_run(area, o, b, n);
+            let k = plain_len(&area[i..to], NEAR);
+            o += put_run(&mut area[o..], b, n);
             move_piece(area, i, o, k);
             o += k;
             i += k;
@@ -256,27 +252,27 @@ fn recode_to(area: &mut [u8], from: usize, to: usize, at: usize) -> usize
             n = 0;
         }
     }
-    put_run(area, o, b, n)
+    o + put_run(&mut area[o..], b, n)
 }
 
 // Makes the value stored from `from` up to `to` canonical, at `at`, which is not after it; answers its new length.
-// Where the offsets are out of order or the bytes stand for no value, nothing is changed.
-pub fn recode(area: &mut [u8], from: usize, to: usize, at: usize) -> Written
+// Where the offsets are out of order or the bytes stand for no value, nothing is changed, and the answer is none.
+pub fn recode(area: &mut [u8], from: usize, to: usize, at: usize) -> Option<usize>
     ensures value { result ≡ recoded_of area.old from to at }
     ensures area_after { area.new ≡ recoded_in area.old from to at }
 {
     if from < at {
-        return Written::NoRoom;
+        return None;
     }
     if to < from {
-        return Written::NoRoom;
+        return None;
     }
     if area.len() < to {
-        return Written::NoRoom;
+        return None;
     }
     if !is_spelled(&area[from..to]) {
-        return Written::NoRoom;
+        return None;
     }
     let e = recode_to(area, from, to, at);
-    Written::Length(e - at)
+    Some(e - at)
 }

@@ -1,21 +1,20 @@
 -- The laws of `decode` and `spelled`.
 use Prim.Native.Nat.{ℕ, ◌+◌, ◌-◌, ◌%◌, ◌≤◌, ◌<◌}
-use mathlib.Core.Path.{◌≡◌, refl, sym, ap, ◌∙◌}
+use mathlib.Core.Path.{◌≡◌, refl, ap, ◌∙◌}
 use mathlib.Core.Bool.{Bool, true, false, ◌&&◌, not}
 use mathlib.Core.List.{List, [], ◌∷◌, ◌++◌}
 use mathlib.Core.Logic.{◌≢◌, ◌↔◌}
 use native.Mathlib.Omega.{arith}
-use lib.ListN.{length, get_or, take, drop, replicate, length-append, length-replicate, drop_of_length-le}
+use lib.ListN.{length, replicate, length-replicate}
 use lib.Dec.{ltb, eqb}
 use borrow.Author.Tests.{eqb-true, eqb-false, eq-eqb, ne_eqb, ltb-true, ltb-false, lt-ltb, le-ltb}
 use Rattle.lists.specs.Bytes.{Every, AllBytes}
-use Rattle.lists.specs.Helpers.{either, until_either}
+use Rattle.lists.specs.Helpers.{either}
 use Rattle.lists.proofs.Tests.{split, clash, and-true}
-use Rattle.lists.proofs.FindLaws.{either-not, plain-cut, plain-bytes, plain-length}
+use Rattle.lists.proofs.FindLaws.{either-not}
 use Rattle.values.specs.Value.{run_byte, run, decode_from, decode, spelled_from, spelled}
-use Rattle.values.specs.Helpers.{part}
 use Rattle.values.specs.Rules.{Spells, nothing, itself, zeros, ones}
-use Rattle.lists.proofs.ListLaws.{drop-next, every_append, every-replicate}
+use Rattle.lists.proofs.ListLaws.{every_append, every-replicate}
 
 -- ---- one step
 
@@ -42,10 +41,6 @@ decode-plain b s h = rw (ne_eqb b 255 h, decode_from)
 pub decode-escape : (c : ℕ) (s : List ℕ) → decode (255 ∷ c ∷ s) ≡ run c ++ decode s
 unfolding decode decode_from
 decode-escape c s = refl
-
-pub decode-cut : decode (255 ∷ []) ≡ []
-unfolding decode decode_from
-decode-cut = refl
 
 pub spelled-plain : (b : ℕ) (s : List ℕ) → b ≢ 0 → b ≢ 255 → spelled (b ∷ s) ≡ spelled s
 unfolding spelled spelled_from
@@ -168,45 +163,3 @@ decode-piece b (x ∷ p) s h = decode-plain x (p ++ s) (either-not b 255 x h.0).
 pub spelled-piece : (p s : List ℕ) → Every (λ x. either 0 255 x ≡ false) p → spelled (p ++ s) ≡ spelled s
 spelled-piece [] s h = refl
 spelled-piece (x ∷ p) s h = let n = either-not 0 255 x h.0 in spelled-plain x (p ++ s) n.0 n.1 ∙ spelled-piece p s h.1
-
--- ---- one turn, at the offset i of l
-
-module _ (l : List ℕ) (i : ℕ) where
-  pub decode-end : length l ≤ i → decode (drop i l) ≡ []
-  decode-end h = ap decode (drop_of_length-le l h) ∙ decode-none
-
-  pub decode-one : i < length l → get_or l i 0 ≢ 255 → decode (drop i l) ≡ get_or l i 0 ∷ decode (drop (i + 1) l)
-  decode-one h b = ap decode (drop-next l i h) ∙ decode-plain (get_or l i 0) (drop (i + 1) l) b
-
-  pub decode-two : i + 1 < length l → get_or l i 0 ≡ 255 → decode (drop i l) ≡ run (get_or l (i + 1) 0) ++ decode (drop (i + 1 + 1) l)
-  decode-two h b =
-      ap decode (drop-next l i (omega arith) ∙ ap (λ (r : List ℕ). get_or l i 0 ∷ r) (drop-next l (i + 1) h))
-      ∙ ap (λ (x : ℕ). decode (x ∷ get_or l (i + 1) 0 ∷ drop (i + 1 + 1) l)) b ∙ decode-escape (get_or l (i + 1) 0) (drop (i + 1 + 1) l)
-
-  pub decode-stop : i < length l → length l ≤ i + 1 → get_or l i 0 ≡ 255 → decode (drop i l) ≡ decode (drop (i + 1) l)
-  decode-stop h k b =
-      let e : drop (i + 1) l ≡ [] = drop_of_length-le l k in
-      ap decode (drop-next l i h) ∙ ap (λ (x : ℕ). decode (x ∷ drop (i + 1) l)) b ∙ ap (λ (r : List ℕ). decode (255 ∷ r)) e ∙ decode-cut
-      ∙ sym (ap decode e ∙ decode-none)
-
-  -- the same of lengths
-  pub length-one : i < length l → get_or l i 0 ≢ 255 → length (decode (drop i l)) ≡ 1 + length (decode (drop (i + 1) l))
-  length-one h b = ap length (decode-one h b) ∙ omega arith
-
-  pub length_two : i + 1 < length l → get_or l i 0 ≡ 255 → length (decode (drop i l)) ≡ get_or l (i + 1) 0 % 128 + length (decode (drop (i + 1 + 1) l))
-  length_two h b =
-      ap length (decode-two h b)
-      ∙ omega (arith, length-append (run (get_or l (i + 1) 0)) (decode (drop (i + 1 + 1) l)), length_run (get_or l (i + 1) 0))
-
--- ---- a piece without 0xFF: from the offset i of l up to e
-module _ (l : List ℕ) (i : ℕ) {e : ℕ} (h : i ≤ e) (q : e ≤ i + until_either 255 255 (drop i l)) where
-  pub decode-part : decode (drop i l) ≡ part l i e ++ decode (drop e l)
-  unfolding part
-  decode-part = ap decode (plain-cut l i 255 255 h q) ∙ decode-piece 255 (take (e - i) (drop i l)) (drop e l) (plain-bytes l i 255 255 h q)
-
-  pub length_part : i ≤ length l → length (part l i e) ≡ e - i
-  unfolding part
-  length_part k = plain-length l i 255 255 h q k
-
-  pub length-piece : i ≤ length l → length (decode (drop i l)) ≡ e - i + length (decode (drop e l))
-  length-piece k = ap length decode-part ∙ omega (arith, length-append (part l i e) (decode (drop e l)), length_part k)

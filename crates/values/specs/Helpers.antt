@@ -1,8 +1,6 @@
 -- For the loops: how far they go byte by byte, a part of a list, and a stored value made canonical in its place.
-use Rattle.std.specs.Prelude.{ℕ, ◌+◌, ◌-◌, ◌≡◌, Bool, ◌&&◌, cond, List, ◌++◌, length, take, drop, leb, ltb}
+use Rattle.std.specs.Prelude.{ℕ, ◌+◌, ◌-◌, Bool, true, false, ◌&&◌, cond, List, [], ◌∷◌, length, take, drop, leb, ltb, eqb, Option, Some, None}
 use Rattle.lists.specs.Pasted.{pasted}
-use Rattle.values.specs.declared.Written.{Written}
-use Rattle.values.specs.declared.Written.TheVariants.{Length, NoRoom}
 use Rattle.values.specs.Value.{decode, spelled, encode}
 
 -- ---- the offsets up to which a loop takes bytes one by one before it looks for a long piece, in a list of `len` bytes
@@ -21,12 +19,13 @@ next_stop from len = cond (ltb (len - from) 128) len (from + 128)
 unfoldable pub part : List ℕ → ℕ → ℕ → List ℕ
 part l from to = take (to - from) (drop from l)
 
--- what the stored bytes s stand for from the offset i up to j is written to the buffer d from o up to p, and gives b
-pub record Passed (s d : List ℕ) (i o j p : ℕ) (b : List ℕ) : Type 0 where
-  pub piece : List ℕ
-  pub told : decode (drop i s) ≡ piece ++ decode (drop j s)
-  pub end : o + length piece ≡ p
-  pub written : b ≡ pasted d o piece
+-- ---- stored bytes that are read piece by piece
+
+-- whether an escape's 0xFF ends the bytes; after: the byte before them was one
+unfoldable pub opened : Bool → List ℕ → Bool
+opened after [] = after
+opened true (c ∷ bs) = opened false bs
+opened false (b ∷ bs) = opened (eqb b 0xFF) bs
 
 -- ---- a stored value made canonical in its place
 
@@ -39,8 +38,8 @@ unfoldable pub recoded : List ℕ → ℕ → ℕ → List ℕ
 recoded area from to = encode (decode (part area from to))
 
 -- the answer: its length
-unfoldable pub recoded_of : List ℕ → ℕ → ℕ → ℕ → Written
-recoded_of area from to at = cond (recodable area from to at) (Length (length (recoded area from to))) NoRoom
+unfoldable pub recoded_of : List ℕ → ℕ → ℕ → ℕ → Option ℕ
+recoded_of area from to at = cond (recodable area from to at) (Some (length (recoded area from to))) None
 
 -- the area afterwards: the canonical form is written at `at`
 unfoldable pub recoded_in : List ℕ → ℕ → ℕ → ℕ → List ℕ

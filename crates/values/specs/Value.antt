@@ -1,7 +1,5 @@
 -- How a value is stored: 0x01 to 0xFE stand for themselves, and 0xFF begins an escape, which stands for a run of 0x00 or of 0xFF.
-use Rattle.std.specs.Prelude.{ℕ, zero, suc, ◌+◌, ◌/◌, ◌%◌, Bool, true, false, ◌&&◌, ◌||◌, not, cond, List, [], ◌∷◌, ◌++◌, length, replicate, leb, ltb, eqb}
-use Rattle.values.specs.declared.Written.{Written}
-use Rattle.values.specs.declared.Written.TheVariants.{Length, NoRoom}
+use Rattle.std.specs.Prelude.{ℕ, zero, suc, ◌+◌, ◌/◌, ◌%◌, Bool, true, false, ◌&&◌, ◌||◌, not, cond, List, [], ◌∷◌, ◌++◌, length, replicate, leb, ltb, eqb, Option, Some, None}
 
 -- ---- from stored bytes to the value
 
@@ -73,5 +71,5 @@ encode xs = encode_from 0x00 0 xs
 -- ---- bytes written to a buffer
 
 -- the answer: the length of the bytes, if there is room for them
-unfoldable pub written_of : List ℕ → ℕ → Written
-written_of l room = cond (leb (length l) room) (Length (length l)) NoRoom
+unfoldable pub written_of : List ℕ → ℕ → Option ℕ
+written_of l room = cond (leb (length l) room) (Some (length l)) None

@@ -1,19 +1,10 @@
 // Values: what stored bytes stand for, and how they are decoded.
 #![tactic(auto)]
 
-ghost use Rattle.std.specs.Prelude.{◌≡◌, ◌+◌, ◌-◌, ◌≤◌, length, drop, replicate};
+ghost use Rattle.std.specs.Prelude.{◌≡◌, ◌+◌, ◌≤◌, ◌++◌, length};
 ghost use Rattle.lists.specs.Pasted.{pasted, written_in};
-ghost use Rattle.lists.specs.Helpers.{until_either};
-ghost use Rattle.values.specs.Value.{run_byte, decode, written_of};
-ghost use Rattle.values.specs.Helpers.{part, Passed};
-ghost use Rattle.values.specs.Helpers.{first_stop, next_stop};
-
-// Bytes written to a buffer: how many, or none for want of room.
-#[derive(Clone, Copy)]
-pub enum Written {
-    Length(usize),
-    NoRoom,
-}
+ghost use Rattle.values.specs.Value.{run_byte, decode_from, decode, written_of};
+ghost use Rattle.values.specs.Helpers.{opened, first_stop, next_stop};
 
 // The offset up to which bytes are taken one by one before a long piece is looked for: at the start at once, unless there are few bytes.
 pub fn first_stop(len: usize) -> usize
@@ -39,137 +30,117 @@ pub fn run_byte(c: u8) -> u8
     if c < 128 { 0 } else { 255 }
 }
 
-// Writes a run of b over the bytes from `from` up to `to`.
-fn fill(buffer: &mut [u8], from: usize, to: usize, b: u8)
-    requires { (from ≤ to) × (to ≤ length buffer.old) }
-    ensures { buffer.new ≡ pasted buffer.old from (replicate (to - from) b) }
+// The longest plain piece that stored bytes begin with, and the rest; none is looked for after an escape's 0xFF or in few bytes.
+fn split_plain(stored: &[u8], after: bool) -> (&[u8], &[u8])
+    ensures rest_left { length stored.now ≡ length result.0.now + length result.1.now }
+    ensures plain { decode_from after stored.now ≡ result.0.now ++ decode_from after result.1.now }
+    ensures opened_after { opened after stored.now ≡ opened after result.1.now }
 {
-    lists::fill(&mut buffer[from..to], b);
-}
-
-// Copies the bytes from `from` up to `to` of a source to `at`.
-fn copy_part(source: &[u8], from: usize, to: usize, buffer: &mut [u8], at: usize)
-    requires { (from ≤ to) × (to ≤ length source.now) × (at + (to - from) ≤ length buffer.old) }
-    ensures { buffer.new ≡ pasted buffer.old at (part source.now from to) }
-{
-    let e = at + (to - from);
-    lists::copy(&source[from..to], &mut buffer[at..e]);
-}
-
-// Copies a piece without b and c from `from` on to `at`, and answers its end: as long as can be, but none where few bytes are left.
-fn copy_long(source: &[u8], from: usize, b: u8, c: u8, buffer: &mut [u8], at: usize) -> usize
-    requires { (from ≤ length source.now) × (at + until_either b c (drop from source.now) ≤ length buffer.old) }
-    ensures lower_bound { (from ≤ result) × (result ≤ from + until_either b c (drop from source.now)) }
-    ensures buffer_after { buffer.new ≡ pasted buffer.old at (part source.now from result) }
-{
-    if source.len() - from < 16 {
-        return from;
+    if after || first_stop(stored.len()) != 0 {
+        return stored.split_at(0);
     }
-    let e = lists::find_either(source, from, b, c);
-    copy_part(source, from, e, buffer, at);
-    e
+    stored.split_at(lists::find_either(stored, 0, 255, 255))
+}
+
+// The length of what a few bytes stand for, and whether an escape's 0xFF ends them; after: one stands before them.
+fn few_len(bytes: &[u8], after: bool) -> (usize, bool)
+    requires { length bytes.now ≤ 128 }
+    ensures len { result.0 ≡ length (decode_from after bytes.now) }
+    ensures opened_after { result.1 ≡ opened after bytes.now }
+{
+    let mut n = 0;
+    let mut open = after;
+    for &b in bytes {
+        if open {
+            n += usize::from(b % 128);
+            open = false;
+        } else if b == 255 {
+            open = true;
+        } else {
+            n += 1;
+        }
+    }
+    (n, open)
 }
 
 // The length of the value that is stored so, if that is at most `room`.
-pub fn decoded_len(stored: &[u8], room: usize) -> Written
+pub fn decoded_len(stored: &[u8], room: usize) -> Option<usize>
     ensures { result ≡ written_of (decode stored.now) room }
 {
-    let mut i = 0;
-    let mut n: usize = 0;
-    let mut stop = first_stop(stored.len());
-    loop {
-        if stop <= i {
-            if stored.len() <= i {
-                return Written::Length(n);
-            }
-            let e = lists::find_either(stored, i, 255, 255);
-            if room - n < e - i {
-                return Written::NoRoom;
-            }
-            n += e - i;
-            i = e;
-            stop = next_stop(e, stored.len());
-        } else if stored[i] == 255 {
-            i += 1;
-            if i < stored.len() {
-                let k = (stored[i] % 128) as usize;
-                if room - n < k {
-                    return Written::NoRoom;
-                }
-                n += k;
-                i += 1;
-            }
-        } else {
-            if room <= n {
-                return Written::NoRoom;
-            }
-            n += 1;
-            i += 1;
+    let mut rest = stored;
+    let mut after = false;
+    let mut n = 0;
+    while !rest.is_empty() {
+        let (plain, tail) = split_plain(rest, after);
+        if room - n < plain.len() {
+            return None;
         }
+        n += plain.len();
+        let (few, tail) = tail.split_at(next_stop(0, tail.len()));
+        let (k, open) = few_len(few, after);
+        if room - n < k {
+            return None;
+        }
+        n += k;
+        rest = tail;
+        after = open;
     }
+    Some(n)
 }
 
-// How far a loop got: the next byte to read, and the next to write.
-#[derive(Clone, Copy)]
-struct Spot {
-    read: usize,
-    put: usize,
-}
-
-// Writes what the stored bytes from `from` on stand for at `at`, up to the offset `stop` or the end of the escape there.
-fn decode_few(stored: &[u8], from: usize, stop: usize, buffer: &mut [u8], at: usize) -> Spot
-    requires from_in_bounds { (from ≤ length stored.now) × (stop ≤ length stored.now) }
-    requires stored_in_bounds { at + length (decode (drop from stored.now)) ≤ length buffer.old }
-    ensures stop_le_read { (stop ≤ result.read) × (result.read ≤ length stored.now) }
-    ensures passed { Passed stored.now buffer.old from at result.read result.put buffer.new }
+// Writes what a few bytes stand for at the start of the buffer: its length, and whether an escape's 0xFF ends the bytes; after: one
+// stands before them.
+fn decode_few(bytes: &[u8], after: bool, buffer: &mut [u8]) -> (usize, bool)
+    requires { length (decode_from after bytes.now) ≤ length buffer.old }
+    ensures len { result.0 ≡ length (decode_from after bytes.now) }
+    ensures opened_after { result.1 ≡ opened after bytes.now }
+    ensures buffer_after { buffer.new ≡ pasted buffer.old 0 (decode_from after bytes.now) }
 {
-    let mut i = from;
-    let mut o = at;
-    while i < stop {
-        let b = stored[i];
-        i += 1;
-        if b == 255 {
-            if i < stored.len() {
-                let c = stored[i];
-                let e = o + (c % 128) as usize;
-                fill(buffer, o, e, run_byte(c));
-                o = e;
-                i += 1;
-            }
+    let mut put = 0;
+    let mut open = after;
+    for &b in bytes {
+        if open {
+            let end = put + usize::from(b % 128);
+            lists::fill(&mut buffer[put..end], run_byte(b));
+            put = end;
+            open = false;
+        } else if b == 255 {
+            open = true;
         } else {
-            buffer[o] = b;
-            o += 1;
+            buffer[put] = b;
+            put += 1;
         }
     }
-    Spot { read: i, put: o }
+    (put, open)
 }
 
 // Writes the value that is stored so at the start of the buffer, which has room for it.
+// It walks as decoded_len does: a trait over which both walk would be longer than the lines that are the same.
 fn decode_to(stored: &[u8], buffer: &mut [u8])
     requires { length (decode stored.now) ≤ length buffer.old }
     ensures { buffer.new ≡ pasted buffer.old 0 (decode stored.now) }
 {
-    let mut i = 0;
-    let mut o: usize = 0;
-    while i < stored.len() {
-        let e = copy_long(stored, i, 255, 255, buffer, o);
-        o += e - i;
-        let spot = decode_few(stored, e, next_stop(e, stored.len()), buffer, o);
-        i = spot.read;
-        o = spot.put;
+    let mut rest = stored;
+    let mut after = false;
+    let mut put = 0;
+    while !rest.is_empty() {
+        let (plain, tail) = split_plain(rest, after);
+        lists::copy(plain, &mut buffer[put..]);
+        put += plain.len();
+        let (few, tail) = tail.split_at(next_stop(0, tail.len()));
+        let (k, open) = decode_few(few, after, &mut buffer[put..]);
+        put += k;
+        rest = tail;
+        after = open;
     }
 }
 
-// Writes the value that is stored so at the start of the buffer, if there is room for all of it.
-pub fn decode(stored: &[u8], buffer: &mut [u8]) -> Written
+// Writes the value that is stored so at the start of the buffer, and answers its length; none where there is no room for all of it.
+pub fn decode(stored: &[u8], buffer: &mut [u8]) -> Option<usize>
     ensures value { result ≡ written_of (decode stored.now) (length buffer.old) }
     ensures buffer_after { buffer.new ≡ written_in (decode stored.now) buffer.old }
 {
-    match decoded_len(stored, buffer.len()) {
-        Written::Length(n) => {
-            decode_to(stored, buffer);
-            Written::Length(n)
-        }
-        Written::NoRoom => Written::NoRoom,
-    }
+    let n = decoded_len(stored, buffer.len())?;
+    decode_to(stored, buffer);
+    Some(n)
 }

@@ -1,94 +1,75 @@
--- `encoding::encode_to` meets its contract. The loop's invariant: the first o bytes are in the buffer, and the rest is the
--- canonical form of the bytes from i on.
-use mathlib.Core.Path.{sym, ◌∙◌}
+-- `encoding::encode_to` meets its contract. The loop's invariant: the first bytes are in the buffer, and the rest is the canonical
+-- form of the bytes left.
+use mathlib.Core.Path.{refl, sym, ap, ◌∙◌}
 use native.Mathlib.Omega.{arith}
-use Rattle.lists.proofs.FindLaws.{either-ahead, either-inside}
-use Rattle.values.proofs.WrittenLaws.{part-put}
-use Rattle.encoding.proofs.EncodeTurns.{run-ahead, run_inside, encoding-none, encoding-same, byte-room}
-use Rattle.encoding.proofs.EncodeTurns.{byte-turn, piece-ahead, piece-room, piece-turn, run_fits, run-turn, encoding-all}
-use borrow.Author.Rules.{rules}
+use lib.ListN.{length}
+use borrow.Rule.Slice.PartMut.{mid_len}
+use lib.Seq.{length-take-le}
+use Rattle.lists.specs.Pasted.{pasted}
+use Rattle.lists.proofs.FindLaws.{until-short}
+use Rattle.values.proofs.WrittenLaws.{tail-put}
+use Rattle.encoding.proofs.EncodeTurns.{leading_length, run-smaller, piece-smaller, encoding-none, run_fits, run-turn, piece-room, piece-turn, encoding-all}
 use Rattle.encoding.proofs.encode_to.Goals as goal
 
-pub loop-i-init : goal.loop-i-init
-loop-i-init c = encoding-none _ _ (search rules)
+pub loop-x-init : goal.loop-x-init
+loop-x-init c = encoding-none _ _ c.requires
 
-pub overflow_sub-e : goal.overflow_sub-e
-overflow_sub-e c =
-    let a = c.args in
-    omega (arith, run-ahead a.value.now c.loop-i.i (search rules) _ c.run_end-e.ensures)
+pub split_at-requires : goal.split_at-requires
+split_at-requires c = rw c.leading.ensures (leading_length _ _)
 
-pub put_run-o-requires : goal.put_run-o-requires
-put_run-o-requires c =
-    run_fits c.loop-i.invariant (search rules)
-    (sym c.is_escaped.ensures ∙ c.if-is_escaped.true) c.run_end-e.ensures
+pub put_run-put-requires : goal.put_run-put-requires
+put_run-put-requires c =
+    let l = c.loop-x in
+    let e = c.in-Some.ensures.cases.0 in
+    let t = sym c.is_escaped.ensures ∙ c.if-is_escaped.true in
+    let p = c.split_at.ensures in
+    omega (arith, run_fits l.invariant e t c.leading.ensures p.front p.back, mid_len l.put (length l.buffer) l.buffer (omega arith))
 
-pub loop-i-smaller-then-is_escaped : goal.loop-i-smaller-then-is_escaped
-loop-i-smaller-then-is_escaped c =
-    let v = c.args.value.now in
-    let e = c.run_end-e in
-    omega (arith, run-ahead v c.loop-i.i (search rules) e.result e.ensures, run_inside v c.loop-i.i (search rules) e.result e.ensures)
+pub overflow_add-put : goal.overflow_add-put
+overflow_add-put c =
+    let l = c.loop-x in
+    let e = c.in-Some.ensures.cases.0 in
+    let t = sym c.is_escaped.ensures ∙ c.if-is_escaped.true in
+    let p = c.split_at.ensures in
+    omega (arith, run_fits l.invariant e t c.leading.ensures p.front p.back, c.put_run-put.ensures.value)
 
-pub loop-i-preserved-then-is_escaped : goal.loop-i-preserved-then-is_escaped
-loop-i-preserved-then-is_escaped c =
-    run-turn c.loop-i.invariant (search rules)
-    (sym c.is_escaped.ensures ∙ c.if-is_escaped.true)
-    c.run_end-e.ensures c.put_run-o.ensures.value c.put_run-o.ensures.buffer_after
+pub loop-x-smaller-then-is_escaped : goal.loop-x-smaller-then-is_escaped
+loop-x-smaller-then-is_escaped c =
+    let p = c.split_at.ensures in
+    run-smaller c.in-Some.ensures.cases.0 c.leading.ensures p.front p.back
 
-pub bounds-buffer-o : goal.bounds-buffer-o
-bounds-buffer-o c =
-    let s = c.loop-i.invariant in
-    byte-room s (search rules) (sym c.is_escaped.ensures ∙ c.if-is_escaped.false)
+pub loop-x-preserved-then-is_escaped : goal.loop-x-preserved-then-is_escaped
+loop-x-preserved-then-is_escaped c =
+    let l = c.loop-x in
+    let e = c.in-Some.ensures.cases.0 in
+    let t = sym c.is_escaped.ensures ∙ c.if-is_escaped.true in
+    let p = c.split_at.ensures in
+    let q = c.put_run-put in
+    run-turn l.invariant e t c.leading.ensures p.front p.back q.ensures.value
+    (tail-put l.buffer l.put _ q.new.buffer (run_fits l.invariant e t c.leading.ensures p.front p.back) q.ensures.buffer_after)
 
-pub overflow_add-o : goal.overflow_add-o
-overflow_add-o c =
-    let s = c.loop-i.invariant in
-    omega (arith, byte-room s (search rules) (sym c.is_escaped.ensures ∙ c.if-is_escaped.false))
+pub put_plain-requires : goal.put_plain-requires
+put_plain-requires c =
+    let l = c.loop-x in
+    omega (arith, piece-room l.invariant refl refl refl, mid_len l.put (length l.buffer) l.buffer (omega arith), length-take-le _ l.rest.now (until-short 0 255 l.rest.now))
 
-pub loop-i-preserved-then-i-stop : goal.loop-i-preserved-then-i-stop
-loop-i-preserved-then-i-stop c =
-    let s = c.loop-i.invariant in
-    byte-turn s (search rules) (sym c.is_escaped.ensures ∙ c.if-is_escaped.false)
+pub split_at-requires-else-is_escaped : goal.split_at-requires-else-is_escaped
+split_at-requires-else-is_escaped c = omega (arith, until-short 0 255 c.loop-x.rest.now, c.put_plain.ensures.value)
 
-pub overflow_sub-p : goal.overflow_sub-p
-overflow_sub-p c =
-    omega (arith, either-ahead c.args.value.now c.loop-i.i 0 255 c.find_either-e.ensures)
-
-pub overflow_add-p : goal.overflow_add-p
-overflow_add-p c =
-    omega (arith, piece-room c.loop-i.invariant (search rules) c.find_either-e.ensures, encoding-same c.loop-i.invariant)
-
-pub slice_bounds-copy-count : goal.slice_bounds-copy-count
-slice_bounds-copy-count c =
-    omega (arith, either-ahead c.args.value.now c.loop-i.i 0 255 c.find_either-e.ensures)
-
-pub slice_bounds-copy-start : goal.slice_bounds-copy-start
-slice_bounds-copy-start c =
-    omega (arith, either-ahead c.args.value.now c.loop-i.i 0 255 c.find_either-e.ensures)
-
-pub slice_bounds-copy-end : goal.slice_bounds-copy-end
-slice_bounds-copy-end c =
-    either-inside c.args.value.now c.loop-i.i 0 255 c.find_either-e.ensures (search rules)
-
-pub slice_bounds-copy-end-else-i-stop : goal.slice_bounds-copy-end-else-i-stop
-slice_bounds-copy-end-else-i-stop c =
-    piece-room c.loop-i.invariant (search rules) c.find_either-e.ensures
-
-pub loop-i-smaller : goal.loop-i-smaller
-loop-i-smaller c =
-    let v = c.args.value.now in
+pub loop-x-smaller : goal.loop-x-smaller
+loop-x-smaller c =
+    let p = c.split_at-else-is_escaped.ensures in
     let t = sym c.is_escaped.ensures ∙ c.if-is_escaped.false in
-    omega (arith, piece-ahead v c.loop-i.i c.find_either-e.ensures (search rules) t)
+    piece-smaller c.loop-x.rest.now c.put_plain.ensures.value p.front p.back c.in-Some.ensures.cases.0 t
 
-pub loop-i-preserved : goal.loop-i-preserved
-loop-i-preserved c =
-    let k = c.copy in
-    let q = c.find_either-e.ensures in
-    let v = c.args.value.now in
-    let r = piece-room c.loop-i.invariant (search rules) q in
-    piece-turn c.loop-i.invariant (search rules) q (part-put c.loop-i.buffer v c.loop-i.i _ c.loop-i.o k.new.to r k.ensures)
-
-pub shape_of-buffer : goal.shape_of-buffer
-shape_of-buffer c = encoding-same c.loop-i.invariant
+pub loop-x-preserved : goal.loop-x-preserved
+loop-x-preserved c =
+    let l = c.loop-x in
+    let p = c.split_at-else-is_escaped.ensures in
+    let q = c.put_plain in
+    let r = piece-room l.invariant q.ensures.value p.front p.back in
+    piece-turn l.invariant q.ensures.value p.front p.back
+    (tail-put l.buffer l.put _ q.new.buffer r (q.ensures.buffer_after ∙ ap (pasted _ 0) (sym p.front)))
 
 pub returns : goal.returns
-returns c = encoding-all c.loop-i.invariant (search rules)
+returns c = encoding-all c.loop-x.invariant c.in_default.ensures.cases

@@ -1,39 +1,35 @@
--- `encoding::is_spelled` meets its contract. The loop's invariant: the bytes from i on are spelled exactly when all are.
-use Prim.Native.Nat.{◌+◌}
+-- `encoding::is_spelled` meets its contract. The loop's invariant: the bytes left are spelled exactly when all are.
+use mathlib.Core.Path.{sym, ◌∙◌}
 use native.Mathlib.Omega.{arith}
-use Rattle.lists.proofs.FindLaws.{either-further}
-use Rattle.encoding.proofs.SpellingTurns.{spelling-none, spelling-zero, spelling-cut, spelling-bad, spelling-run, spelling-piece, spelling-all}
+use Rattle.lists.proofs.FindLaws.{until-short}
+use Rattle.encoding.proofs.SpellingTurns.{spelling-zero, spelling-cut, spelling-bad, spelling-run, spelling-smaller, spelling-piece, spelling-all}
 use borrow.Author.Rules.{rules}
 use Rattle.encoding.proofs.is_spelled.Goals as goal
 
-pub loop-i-init : goal.loop-i-init
-loop-i-init c = spelling-none _
-
 pub returns-then-b-eq0 : goal.returns-then-b-eq0
-returns-then-b-eq0 c = spelling-zero c.loop-i.invariant (search rules) c.if-b-eq0.true
+returns-then-b-eq0 c = spelling-zero c.in-Some.ensures.cases.0 c.if-b-eq0.true ∙ sym c.loop-b.invariant
 
-pub returns-then-stored-i : goal.returns-then-stored-i
-returns-then-stored-i c = spelling-cut c.loop-i.invariant (search rules) c.if-b.true (search rules)
+pub returns-in_default-split_first : goal.returns-in_default-split_first
+returns-in_default-split_first c =
+    spelling-cut c.in-Some.ensures.cases.0 c.if-b.true c.in_default-split_first.ensures.cases ∙ sym c.loop-b.invariant
 
-pub returns-then-stored-i-eq0 : goal.returns-then-stored-i-eq0
-returns-then-stored-i-eq0 c =
-    let l = c.loop-i in
-    spelling-bad l.invariant (search rules) c.if-b.true
-    (omega (arith, c.type_inv.stored (l.i + 1))) c.if-stored-i-eq0.true
+pub returns-then-c-eq0 : goal.returns-then-c-eq0
+returns-then-c-eq0 c =
+    spelling-bad c.in-Some.ensures.cases.0 c.if-b.true c.in-Some-split_first.ensures.cases.0 (search rules) c.if-c-eq0.true ∙ sym c.loop-b.invariant
 
-pub loop-i-preserved-then-b : goal.loop-i-preserved-then-b
-loop-i-preserved-then-b c =
-    let s = c.loop-i.invariant in
-    spelling-run s (search rules) c.if-b.true c.if-stored-i-eq0.false
+pub loop-b-preserved-then-b : goal.loop-b-preserved-then-b
+loop-b-preserved-then-b c =
+    c.loop-b.invariant ∙ spelling-run c.in-Some.ensures.cases.0 c.if-b.true c.in-Some-split_first.ensures.cases.0 c.if-c-eq0.false
 
-pub loop-i-smaller : goal.loop-i-smaller
-loop-i-smaller c =
-    let s = c.args.stored.now in
-    let q = c.plain_end-i.ensures in
-    omega (arith, either-further s c.loop-i.i 0 255 q (search rules) c.if-b-eq0.false c.if-b.false)
+pub split_at-requires : goal.split_at-requires
+split_at-requires c = omega (arith, c.plain_len.ensures, until-short 0 255 c.loop-b.rest.now)
 
-pub loop-i-preserved : goal.loop-i-preserved
-loop-i-preserved c = spelling-piece c.loop-i.invariant c.plain_end-i.ensures
+pub loop-b-smaller : goal.loop-b-smaller
+loop-b-smaller c =
+    spelling-smaller c.in-Some.ensures.cases.0 c.if-b-eq0.false c.if-b.false _ c.plain_len.ensures c.split_at.ensures.back_len
+
+pub loop-b-preserved : goal.loop-b-preserved
+loop-b-preserved c = c.loop-b.invariant ∙ spelling-piece c.loop-b.rest.now c.plain_len.ensures c.split_at.ensures.back
 
 pub returns : goal.returns
-returns c = spelling-all c.loop-i.invariant (search rules)
+returns c = spelling-all c.loop-b.rest.now c.in_default.ensures.cases ∙ sym c.loop-b.invariant

@@ -1,51 +1,58 @@
--- `encoding::put_run` meets its contract. The loop's invariant: k escapes of 127 are in the buffer.
-use mathlib.Core.Path.{◌∙◌}
+-- `encoding::put_run` meets its contract. The loop's invariant: the escapes of 127 that are counted are in the buffer.
 use native.Mathlib.Omega.{arith}
-use Rattle.encoding.proofs.EncodeTurns.{escaping-none, escaping-same, full-fits, full-turn}
-use Rattle.encoding.proofs.EncodeTurns.{even_place, even-all, rest-fits, rest-place, rest_all}
-use borrow.Author.Rules.{rules}
+use lib.ListN.{length}
+use borrow.Rule.Slice.PartMut.{mid_len}
+use Rattle.values.proofs.WrittenLaws.{tail-put}
+use Rattle.encoding.proofs.EncodeTurns.{escaping-none, full-fits, full-turn, even_place, even-all, rest-fits, rest-place, rest_all}
 use Rattle.encoding.proofs.put_run.Goals as goal
 
-pub loop-k-init : goal.loop-k-init
-loop-k-init c = (search rules, escaping-none _ c.args.n _ _ (search rules))
+pub loop-init : goal.loop-init
+loop-init c = escaping-none _ c.args.n _ _ (omega (arith, c.requires))
+
+pub slice_bounds-put_escape-count : goal.slice_bounds-put_escape-count
+slice_bounds-put_escape-count c = omega (arith, full-fits c.loop.invariant (omega arith))
 
 pub put_escape-requires : goal.put_escape-requires
-put_escape-requires c = full-fits c.loop-k.invariant.1 (search rules)
+put_escape-requires c =
+    let l = c.loop in
+    omega (arith, full-fits l.invariant (omega arith), mid_len l.put (length l.buffer) l.buffer (omega arith))
 
-pub overflow_add-o : goal.overflow_add-o
-overflow_add-o c = omega (arith, full-fits c.loop-k.invariant.1 (search rules))
+pub overflow_add-put : goal.overflow_add-put
+overflow_add-put c = omega (arith, full-fits c.loop.invariant (omega arith))
 
-pub loop-k-preserved : goal.loop-k-preserved
-loop-k-preserved c = (
-  search rules,
-  full-turn c.loop-k.invariant.1 (search rules)
-      c.mark_of-m.ensures.0 c.put_escape.ensures,
-)
+pub loop-preserved : goal.loop-preserved
+loop-preserved c =
+    let l = c.loop in
+    let h = full-fits l.invariant c.loop-test.true in
+    full-turn l.invariant c.loop-test.true c.mark_of-mark.ensures.0 (tail-put l.buffer l.put _ c.put_escape.new.buffer h c.put_escape.ensures)
 
-pub shape_of-buffer-then-rest-eq0 : goal.shape_of-buffer-then-rest-eq0
-shape_of-buffer-then-rest-eq0 c = escaping-same c.loop-k.invariant.1
+pub returns-then-rest-eq0-clause-value : goal.returns-then-rest-eq0-clause-value
+returns-then-rest-eq0-clause-value c = omega (arith, even_place c.loop.invariant c.loop-test.false c.if-rest-eq0.true)
 
-pub returns-then-rest-eq0 : goal.returns-then-rest-eq0
-returns-then-rest-eq0 c =
-    let s = c.loop-k.invariant.1 in
-    record { value = even_place s (search rules) c.if-rest-eq0.true; buffer_after = even-all s (search rules) c.if-rest-eq0.true }
+pub returns-then-rest-eq0-clause-buffer_after : goal.returns-then-rest-eq0-clause-buffer_after
+returns-then-rest-eq0-clause-buffer_after c = even-all c.loop.invariant c.loop-test.false c.if-rest-eq0.true
+
+pub slice_bounds-put_escape-count-2 : goal.slice_bounds-put_escape-count-2
+slice_bounds-put_escape-count-2 c = omega (arith, rest-fits c.loop.invariant c.loop-test.false c.if-rest-eq0.false)
 
 pub put_escape-requires-2 : goal.put_escape-requires-2
-put_escape-requires-2 c = rest-fits c.loop-k.invariant.1 (search rules) c.if-rest-eq0.false
+put_escape-requires-2 c =
+    let l = c.loop in
+    omega (arith, rest-fits l.invariant c.loop-test.false c.if-rest-eq0.false, mid_len l.put (length l.buffer) l.buffer (omega arith))
 
 pub overflow_add-result : goal.overflow_add-result
-overflow_add-result c =
-    omega (arith, rest-fits c.loop-k.invariant.1 (search rules) c.if-rest-eq0.false)
+overflow_add-result c = omega (arith, rest-fits c.loop.invariant c.loop-test.false c.if-rest-eq0.false)
 
-pub shape_of-buffer : goal.shape_of-buffer
-shape_of-buffer c = c.put_escape-2.auto.buffer ∙ escaping-same c.loop-k.invariant.1
+pub returns-clause-value : goal.returns-clause-value
+returns-clause-value c =
+    let l = c.loop in
+    let h = rest-fits l.invariant c.loop-test.false c.if-rest-eq0.false in
+    let w = tail-put l.buffer l.put _ c.put_escape-2.new.buffer h c.put_escape-2.ensures in
+    omega (arith, rest-place l.invariant c.loop-test.false c.if-rest-eq0.false c.mark_of-mark.ensures.0 w)
 
-pub returns : goal.returns
-returns c =
-    let s = c.loop-k.invariant.1 in
-    let m = c.mark_of-m.ensures.0 in
-    let e = c.if-rest-eq0.false in
-    record {
-      value = rest-place s (search rules) e m c.put_escape-2.ensures;
-      buffer_after = rest_all s (search rules) e m c.put_escape-2.ensures;
-    }
+pub returns-clause-buffer_after : goal.returns-clause-buffer_after
+returns-clause-buffer_after c =
+    let l = c.loop in
+    let h = rest-fits l.invariant c.loop-test.false c.if-rest-eq0.false in
+    rest_all l.invariant c.loop-test.false c.if-rest-eq0.false c.mark_of-mark.ensures.0
+    (tail-put l.buffer l.put _ c.put_escape-2.new.buffer h c.put_escape-2.ensures)

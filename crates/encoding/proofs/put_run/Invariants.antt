@@ -1,10 +1,6 @@
--- `encoding::put_run` meets its contract. The loop's invariant: k escapes of 127 are in the buffer.
-use Prim.Native.Nat.{◌≤◌, ◌-◌}
+-- `encoding::put_run` meets its contract. The loop's invariant: the escapes of 127 that are counted are in the buffer.
 use Rattle.encoding.proofs.EncodeTurns.{Escaping}
 use Rattle.encoding.proofs.put_run.Given as goal
 
-abbrev pub invariant-loop-k : goal.invariant-loop-k
-invariant-loop-k l = (l.k ≤ l.q) × Escaping l.b l.n l.initial.buffer l.at l.k l.o l.buffer
-
-abbrev pub decreases-loop-k : goal.decreases-loop-k
-decreases-loop-k l = l.q - l.k
+abbrev pub invariant-loop : goal.invariant-loop
+invariant-loop l = Escaping l.b l.n l.initial.buffer 0 l.counter l.put l.buffer

@@ -1,48 +1,59 @@
--- `values::decode_to` meets its contract. The loop's invariant: the value's first o bytes are in the buffer, and the bytes from i on stand for the rest.
-use mathlib.Core.Logic.{⊎_elim}
+-- `values::decode_to` meets its contract. The loop's invariant: what is read stands in the buffer.
+use mathlib.Core.Path.{refl, sym, ap, ◌∙◌}
+use Prim.Native.Nat.{◌+◌, ◌-◌, ◌<◌}
 use native.Mathlib.Omega.{arith}
-use Rattle.lists.proofs.FindLaws.{plain-inside}
-use Rattle.values.proofs.StopLaws.{next-inside, next-cases}
-use Rattle.values.proofs.DecodeTurns.{decoding-none, decoding-same, piece-room, piece-turn, rest-fits, passed-turn, decoding-all}
+use lib.ListN.{length}
+use borrow.Rule.Slice.PartMut.{put_mid, mid_len}
+use Rattle.lists.specs.Pasted.{pasted}
+use Rattle.values.proofs.DecodeTurns.{decoding-none, piece-room, piece-turn, few-room, few-turn, decoding-same, decoding-all, decode-begins, none-left}
+use Rattle.values.proofs.StopLaws.{few-next, fewer-left}
+use Rattle.values.proofs.WrittenLaws.{tail-copied, tail-put}
 use borrow.Author.Rules.{rules}
 use Rattle.values.proofs.decode_to.Goals as goal
 
-pub loop-i-init : goal.loop-i-init
-loop-i-init c = (search rules, decoding-none _ _ 0 0 (search rules))
+pub loop-rest-init : goal.loop-rest-init
+loop-rest-init c = decoding-none _ _ _ (omega (arith, c.requires, ap length (decode-begins c.args.stored.now)))
 
-pub copy_long-e-requires : goal.copy_long-e-requires
-copy_long-e-requires c = (search rules, piece-room c.loop-i.invariant.1 (search rules))
+pub decode_few-k-requires : goal.decode_few-k-requires
+decode_few-k-requires c =
+    let l = c.loop-rest in
+    let p = c.split_plain.ensures in
+    let k = c.split_at.ensures in
+    let r = piece-room l.invariant _ _ p.plain p.opened_after in
+    let s = piece-turn l.invariant _ _ p.plain p.opened_after (tail-copied l.buffer l.put _ c.copy.new.to r c.copy.ensures) in
+    let b = put_mid l.put (length l.buffer - l.put) l.buffer c.copy.new.to in
+    omega (arith, few-room s _ k.front k.back refl, mid_len (l.put + length c.split_plain.result.0.now) (length b) b (omega arith))
 
-pub overflow_add-o : goal.overflow_add-o
-overflow_add-o c =
-    let k = c.copy_long-e.ensures in
-    let p = piece-turn c.loop-i.invariant.1 (search rules) k.lower_bound.0 k.lower_bound.1 k.buffer_after in
-    omega (arith, rest-fits p, decoding-same p)
+pub overflow_add-put-in-loop-rest : goal.overflow_add-put-in-loop-rest
+overflow_add-put-in-loop-rest c =
+    let l = c.loop-rest in
+    let p = c.split_plain.ensures in
+    let k = c.split_at.ensures in
+    let f = c.decode_few-k.ensures in
+    let r = piece-room l.invariant _ _ p.plain p.opened_after in
+    let s = piece-turn l.invariant _ _ p.plain p.opened_after (tail-copied l.buffer l.put _ c.copy.new.to r c.copy.ensures) in
+    omega (arith, few-room s _ k.front k.back f.opened_after, f.len, decoding-same s)
 
-pub decode_few-spot-requires : goal.decode_few-spot-requires
-decode_few-spot-requires c =
-    let k = c.copy_long-e.ensures in
-    let p = piece-turn c.loop-i.invariant.1 (search rules) k.lower_bound.0 k.lower_bound.1 k.buffer_after in
-    let s = c.args.stored.now in
-    let n = next-inside _ _ c.next_stop.ensures in
-    record { from_in_bounds = (plain-inside s c.loop-i.i 255 255 k.lower_bound.0 k.lower_bound.1 (search rules), n); stored_in_bounds = rest-fits p }
+pub split_at-requires : goal.split_at-requires
+split_at-requires c = omega (arith, (few-next _ c.next_stop.ensures).inside)
 
-pub loop-i-smaller : goal.loop-i-smaller
-loop-i-smaller c =
-    let k = c.copy_long-e.ensures in
-    let a = k.lower_bound.0 in
-    let h = c.decode_few-spot.ensures.stop_le_read in
-    ⊎_elim (λ w. omega arith) (λ w. omega arith) (next-cases _ _ c.next_stop.ensures)
+pub loop-rest-smaller : goal.loop-rest-smaller
+loop-rest-smaller c =
+    let h : 0 < length c.loop-rest.rest.now = search rules in
+    fewer-left _ _ _ _ _ h c.split_plain.ensures.rest_left (few-next _ c.next_stop.ensures) c.split_at.ensures.back_len
 
-pub loop-i-preserved : goal.loop-i-preserved
-loop-i-preserved c =
-    let k = c.copy_long-e.ensures in
-    let f = c.decode_few-spot.ensures in
-    let p = piece-turn c.loop-i.invariant.1 (search rules) k.lower_bound.0 k.lower_bound.1 k.buffer_after in
-    (f.stop_le_read.1, passed-turn p f.passed)
-
-pub shape_of-buffer : goal.shape_of-buffer
-shape_of-buffer c = decoding-same c.loop-i.invariant.1
+pub loop-rest-preserved : goal.loop-rest-preserved
+loop-rest-preserved c =
+    let l = c.loop-rest in
+    let p = c.split_plain.ensures in
+    let k = c.split_at.ensures in
+    let f = c.decode_few-k.ensures in
+    let r = piece-room l.invariant _ _ p.plain p.opened_after in
+    let s = piece-turn l.invariant _ _ p.plain p.opened_after (tail-copied l.buffer l.put _ c.copy.new.to r c.copy.ensures) in
+    few-turn s _ k.front k.back f.opened_after f.len
+    (tail-put _ _ _ c.decode_few-k.new.buffer (few-room s _ k.front k.back f.opened_after) f.buffer_after)
 
 pub returns : goal.returns
-returns c = decoding-all c.loop-i.invariant.1 (search rules)
+returns c =
+    decoding-all c.loop-rest.invariant (none-left c.loop-rest.rest.now (search rules))
+    ∙ ap (pasted c.args.buffer.now 0) (sym (decode-begins c.args.stored.now))

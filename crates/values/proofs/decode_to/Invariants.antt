@@ -1,11 +1,11 @@
--- `values::decode_to` meets its contract. The loop's invariant: the value's first o bytes are in the buffer, and the bytes from i on stand for the rest.
-use Prim.Native.Nat.{◌≤◌, ◌-◌}
+-- `values::decode_to` meets its contract. The loop's invariant: what is read stands in the buffer.
+use mathlib.Core.Bool.{false}
 use lib.ListN.{length}
 use Rattle.values.proofs.DecodeTurns.{Decoding}
 use Rattle.values.proofs.decode_to.Given as goal
 
-abbrev pub invariant-loop-i : goal.invariant-loop-i
-invariant-loop-i l = (l.i ≤ length l.stored) × Decoding l.stored l.initial.buffer 0 0 l.i l.o l.buffer
+abbrev pub invariant-loop-rest : goal.invariant-loop-rest
+invariant-loop-rest l = Decoding false l.stored l.initial.buffer l.after l.rest l.put l.buffer
 
-abbrev pub decreases-loop-i : goal.decreases-loop-i
-decreases-loop-i l = length l.stored - l.i
+abbrev pub decreases-loop-rest : goal.decreases-loop-rest
+decreases-loop-rest l = length l.rest

@@ -1,61 +1,51 @@
--- `values::decoded_len` meets its contract. The loop's invariant: n bytes, and those that the bytes from i on stand for, are the value's length.
+-- `values::decoded_len` meets its contract. The loop's invariant: n bytes, and those that the bytes left stand for, are the value's length.
+use Prim.Native.Nat.{◌<◌}
+use mathlib.Core.Path.{sym, ap}
 use native.Mathlib.Omega.{arith}
 use lib.ListN.{length}
-use Rattle.lists.proofs.FindLaws.{either-ahead, either-inside}
-use Rattle.values.proofs.StopLaws.{first-inside, next-inside, next-cases, stop-less}
-use Rattle.values.proofs.DecodeTurns.{measured-none, measured-run, measured-long, measured-stop}
-use Rattle.values.proofs.DecodeTurns.{measured-one, measured-full, measured-piece, measured-wide, measured-all}
+use Rattle.values.proofs.DecodeTurns.{measured-none, measured-piece, measured-few, measured-len, decode-begins, none-left}
+use Rattle.values.proofs.StopLaws.{few-next, fewer-left}
+use Rattle.values.proofs.WrittenLaws.{written-not, count_fits}
 use borrow.Author.Rules.{rules}
 use Rattle.values.proofs.decoded_len.Goals as goal
 
-pub loop-stop-init : goal.loop-stop-init
-loop-stop-init c = (search rules, first-inside _ c.first_stop-stop.ensures, measured-none _ _)
-
-pub returns-then-stored-i : goal.returns-then-stored-i
-returns-then-stored-i c = measured-all c.loop-stop.invariant.2 (search rules)
-
-pub overflow_sub-e : goal.overflow_sub-e
-overflow_sub-e c =
-    omega (arith, either-ahead c.args.stored.now c.loop-stop.i 255 255 c.find_either-e.ensures)
+pub loop-rest-init : goal.loop-rest-init
+loop-rest-init c = (search rules, measured-none _ _)
 
 pub returns-then-room-n : goal.returns-then-room-n
-returns-then-room-n c = measured-wide c.loop-stop.invariant.2 (search rules) c.find_either-e.ensures (search rules)
-
-pub overflow_sub-n : goal.overflow_sub-n
-overflow_sub-n c =
-    omega (arith, either-ahead c.args.stored.now c.loop-stop.i 255 255 c.find_either-e.ensures)
-
-pub loop-stop-smaller-then-stop-i : goal.loop-stop-smaller-then-stop-i
-loop-stop-smaller-then-stop-i c =
-    let s = c.args.stored.now in
-    let q = c.find_either-e.ensures in
-    let a = either-ahead s c.loop-stop.i 255 255 q in
-    let b = either-inside s c.loop-stop.i 255 255 q (search rules) in
-    stop-less (length s) c.loop-stop.i c.loop-stop.stop _ _ (search rules) (search rules) a b (next-cases _ _ c.next_stop-stop.ensures)
-
-pub loop-stop-preserved-then-stop-i : goal.loop-stop-preserved-then-stop-i
-loop-stop-preserved-then-stop-i c =
-    let q = c.find_either-e.ensures in (
-      either-inside c.args.stored.now c.loop-stop.i 255 255 q (search rules),
-      next-inside _ _ c.next_stop-stop.ensures,
-      measured-piece c.loop-stop.invariant.2 (search rules) q (search rules),
-    )
+returns-then-room-n c =
+    let p = c.split_plain.ensures in
+    let s = measured-piece c.loop-rest.invariant.1 _ _ p.plain p.opened_after in
+    sym (written-not _ _ (omega (arith, s.sum, c.loop-rest.invariant.0, ap length (decode-begins c.args.stored.now))))
 
 pub returns-then-room-n-2 : goal.returns-then-room-n-2
 returns-then-room-n-2 c =
-    measured-long c.loop-stop.invariant.2 (search rules) c.if-stored-i-2.true (search rules)
+    let p = c.split_plain.ensures in
+    let k = c.split_at.ensures in
+    let f = c.few_len-k.ensures in
+    let s = measured-few (measured-piece c.loop-rest.invariant.1 _ _ p.plain p.opened_after) _ k.front k.back f.len f.opened_after in
+    sym (written-not _ _ (omega (arith, s.sum, c.loop-rest.invariant.0, ap length (decode-begins c.args.stored.now))))
 
-pub loop-stop-preserved-then-i-stored : goal.loop-stop-preserved-then-i-stored
-loop-stop-preserved-then-i-stored c =
-    (search rules, search rules, measured-run c.loop-stop.invariant.2 (search rules) c.if-stored-i-2.true (search rules))
+pub split_at-requires : goal.split_at-requires
+split_at-requires c = omega (arith, (few-next _ c.next_stop.ensures).inside)
 
-pub loop-stop-preserved-else-i-stored : goal.loop-stop-preserved-else-i-stored
-loop-stop-preserved-else-i-stored c =
-    (search rules, search rules, measured-stop c.loop-stop.invariant.2 (search rules) (search rules) c.if-stored-i-2.true)
+pub few_len-k-requires : goal.few_len-k-requires
+few_len-k-requires c = omega (arith, c.split_at.ensures.front_len, (few-next _ c.next_stop.ensures).few)
 
-pub returns-then-room-n-3 : goal.returns-then-room-n-3
-returns-then-room-n-3 c = measured-full c.loop-stop.invariant.2 (search rules) c.if-stored-i-2.false (search rules)
+pub loop-rest-smaller : goal.loop-rest-smaller
+loop-rest-smaller c =
+    let h : 0 < length c.loop-rest.rest.now = search rules in
+    fewer-left _ _ _ _ _ h c.split_plain.ensures.rest_left (few-next _ c.next_stop.ensures) c.split_at.ensures.back_len
 
-pub loop-stop-preserved : goal.loop-stop-preserved
-loop-stop-preserved c =
-    (search rules, search rules, measured-one c.loop-stop.invariant.2 (search rules) c.if-stored-i-2.false (search rules))
+pub loop-rest-preserved : goal.loop-rest-preserved
+loop-rest-preserved c =
+    let p = c.split_plain.ensures in
+    let k = c.split_at.ensures in
+    let f = c.few_len-k.ensures in
+    (omega arith, measured-few (measured-piece c.loop-rest.invariant.1 _ _ p.plain p.opened_after) _ k.front k.back f.len f.opened_after)
+
+pub returns : goal.returns
+returns c =
+    let l = c.loop-rest in
+    let e = none-left l.rest.now (search rules) in
+    count_fits _ _ _ (omega (arith, measured-len l.invariant.1 e, ap length (decode-begins c.args.stored.now))) l.invariant.0
