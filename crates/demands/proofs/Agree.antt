@@ -10,8 +10,7 @@ use Rattle.lists.specs.Pasted.{pasted}
 use Rattle.lists.proofs.Tests.{clash}
 use Rattle.lists.proofs.PastedLaws.{pasted-first}
 use Rattle.errors.specs.declared.Error.TheVariants.{BadName, NoVariable, NoRoom, ShortBuffer}
-use Rattle.names.specs.declared.NameCheck.TheVariants.{Good, Wrong}
-use Rattle.names.specs.Name.{name_check}
+use Rattle.names.specs.Name.{good as good-name, wrong, name_check}
 use Rattle.names.specs.Rules.{NameRule}
 use Rattle.names.proofs.NameLaws.{check-good-exactly, split-check}
 use Rattle.pairs.specs.Area.{Pair, pairs_bytes, parsed, parse}
@@ -20,18 +19,13 @@ use Rattle.pairs.proofs.ParseLaws.{Good as GoodPairs, area-read, read-room, byte
 use Rattle.lists.proofs.StandsLaws.{stands-none}
 use Rattle.pairs.proofs.EntryLaws.{entries_of}
 use Rattle.variables.specs.Edits.{area_bytes, set_pair, remove_pair, normalize_pairs, lookup}
-use Rattle.variables.specs.Calls.{Action, set_to, removal, read_into, lent_by, Call, named, set, remove, normalize, read, count, Reply, done, refused}
-use Rattle.variables.specs.Calls.{Outcome, edited, call_pairs, call_area}
-use Rattle.variables.proofs.EditLaws.{length-area, parse-area, good-set, good-remove, good-normalize, remove-room, bytes-set, bytes-remove}
-use Rattle.variables.proofs.EditLaws.{bytes-normalize, bytes-area, normalize-short, normalize-twice, normalize-set, normalize-remove}
-use Rattle.variables.proofs.CallLaws.{check-named, check-normalize, check-count, call-misnamed, call-parsed, set-short, set-done, remove-missing}
-use Rattle.variables.proofs.CallLaws.{remove-found, read-missing, read_short, read_done, normalize-done, count-done, split-lookup, split-room}
+use Rattle.variables.specs.Calls.{Action, set_to, removal, read_into, lent_by, Call, named, set, remove, normalize, read, count, Reply, done, refused, Outcome, edited, call_pairs, call_area}
+use Rattle.variables.proofs.EditLaws.{length-area, parse-area, good-set, good-remove, good-normalize, remove-room, bytes-set, bytes-remove, bytes-normalize, bytes-area, normalize-short, normalize-twice, normalize-set, normalize-remove}
+use Rattle.variables.proofs.CallLaws.{check-named, check-normalize, check-count, call-misnamed, call-parsed, set-short, set-done, remove-missing, remove-found, read-missing, read_short, read_done, normalize-done, count-done, split-lookup, split-room}
 use Rattle.nvram.specs.Calls.{Told, told_at}
-use Rattle.demands.specs.Model.{Model, total, set_entry, drop_entry, new_sizes, Value, value_of, ModelResult, says, denies, keeps, becomes, set_model}
-use Rattle.demands.specs.Model.{remove_model, read_model, action_model, call_model, canonical_area}
+use Rattle.demands.specs.Model.{Model, total, set_entry, drop_entry, new_sizes, Value, value_of, ModelResult, says, denies, keeps, becomes, set_model, remove_model, read_model, action_model, call_model, canonical_area}
 use Rattle.demands.specs.Demands.{ActionBytes, CallBytes}
-use Rattle.demands.proofs.ModelLaws.{entries-set, entries-remove, entries-normalize, value_for, value-entries, count_entries, total-entries}
-use Rattle.demands.proofs.ModelLaws.{canonical-area}
+use Rattle.demands.proofs.ModelLaws.{entries-set, entries-remove, entries-normalize, value_for, value-entries, count_entries, total-entries, canonical-area}
 
 -- the model of an area that reads as these pairs
 abbrev pub model_of : List ℕ → List Pair → Model
@@ -60,12 +54,12 @@ area-in-form area ps r c =
 -- ---- one step of the model
 
 module _ (m : Model) where
-  step-misnamed : (name : List ℕ) (action : Action) (at : ℕ) → name_check name ≡ Wrong at
+  step-misnamed : (name : List ℕ) (action : Action) (at : ℕ) → name_check name ≡ wrong at
       → call_model (named name action) m ≡ keeps (denies 11 at (lent_by action)) m
   unfolding call_model
   step-misnamed name action at g = rw g
 
-  step-named : (name : List ℕ) (action : Action) → name_check name ≡ Good → call_model (named name action) m ≡ action_model action name m
+  step-named : (name : List ℕ) (action : Action) → name_check name ≡ good-name → call_model (named name action) m ≡ action_model action name m
   unfolding call_model
   step-named name action g = rw g
 

@@ -16,13 +16,12 @@ use Rattle.errors.specs.declared.Error.TheVariants.{BadArea, BadName, NoRoom}
 use Rattle.errors.proofs.ErrorLaws.{code-range}
 use Rattle.errors.specs.Errors.{code_of, moved}
 use Rattle.partitions.specs.declared.Partition.{Partition}
-use Rattle.partitions.specs.declared.Found.TheVariants.{At}
+use Rattle.std.specs.Prelude.{Ok}
 use Rattle.partitions.specs.Find.{area_of}
 use Rattle.partitions.specs.Cover.{area_at}
 use Rattle.partitions.proofs.CoverLaws.{check-accepts}
 use Rattle.partitions.proofs.FrameLaws.{among-area, pasted-kept, area-new, area-bytes}
-use Rattle.names.specs.declared.NameCheck.TheVariants.{Good}
-use Rattle.names.specs.Name.{name_check}
+use Rattle.names.specs.Name.{good, name_check}
 use Rattle.names.specs.Rules.{NameRule}
 use Rattle.names.proofs.NameLaws.{check-good-exactly, split-check}
 use Rattle.values.proofs.EncodeLaws.{encode-shortest}
@@ -37,10 +36,9 @@ use Rattle.variables.specs.Rules.{Holds}
 use Rattle.variables.specs.Calls.{set_to, read_into, set, read, call_check, done, Outcome, refuse, call_area}
 use Rattle.variables.proofs.EditLaws.{length-area, parse-area, lookup-none, lookup-next, good-set, lookup-set}
 use Rattle.variables.proofs.LookupLaws.{found-exactly}
-use Rattle.variables.proofs.CallLaws.{check-named, split-parse, split-room, call-misnamed, call-faulty, call-parsed, set-short}
-use Rattle.variables.proofs.CallLaws.{set-done as set-outcome, read_done}
+use Rattle.variables.proofs.CallLaws.{check-named, split-parse, split-room, call-misnamed, call-faulty, call-parsed, set-short, set-done as set-outcome, read_done}
 use Rattle.nvram.specs.Common.{OnlyCommon, common_of}
-use Rattle.nvram.specs.Calls.{Told, told_at, Result, call_image}
+use Rattle.nvram.specs.Calls.{Told, told_at, ImageOutcome, call_image}
 use Rattle.nvram.proofs.CommonLaws.{split-found, common-exactly, common-among, common-kept}
 use Rattle.nvram.proofs.CallLaws.{image-misnamed, image-refused, call-image}
 use Rattle.demands.specs.Demands.{Demand2}
@@ -66,11 +64,11 @@ read_found name value buffer area ps r f l =
     let g : NameRule name = found-named name value (area-read area ps r).good f in
     call-parsed (read name buffer) area (check-named name (read_into buffer) ∙ (check-good-exactly name).1 g) ps r ∙ read_done name ps area buffer f l
 
-read_told_lem : (I : List ℕ) (p : Partition) (ps : List Pair) (name value buffer : List ℕ) → common_of I ≡ At p → parse (area_of I (At p)) ≡ parsed ps
+read_told_lem : (I : List ℕ) (p : Partition) (ps : List Pair) (name value buffer : List ℕ) → common_of I ≡ Ok p → parse (area_of I (Ok p)) ≡ parsed ps
     → lookup name ps ≡ found value → length value ≤ length buffer → (call_image (read name buffer) I).told ≡ value_told value buffer
 read_told_lem I p ps name value buffer e r f l =
-    ap (λ (x : Result). x.told) (call-image (read name buffer) I p e)
-    ∙ ap (λ (o : Outcome). told_at (p.offset + 16) o.reply o.buffer) (read_found name value buffer (area_of I (At p)) ps r f l)
+    ap (λ (x : ImageOutcome). x.told) (call-image (read name buffer) I p e)
+    ∙ ap (λ (o : Outcome). told_at (p.offset + 16) o.reply o.buffer) (read_found name value buffer (area_of I (Ok p)) ps r f l)
 
 value-start : (value buffer : List ℕ) → take (length value) (pasted buffer 0 value) ≡ value
 value-start value buffer = ap (take (length value)) (pasted-first buffer value) ∙ take-append_seam value (drop (length value) buffer)
@@ -102,7 +100,7 @@ module _ (n : ℕ) (name value area : List ℕ) (h : code_from n (call_area (set
   never : {A : Type 0} (e : Error) (o : Outcome) → call_area (set name value) area ≡ o → code_from n o ≡ code_of (moved n e) → A
   never e o q c = absurd (refused-code (moved n e) (sym c ∙ ap (code_from n) (sym q) ∙ h))
 
-  of-pairs : (g : name_check name ≡ Good) (ps : List Pair) → parse area ≡ parsed ps → SetDone name value area (call_area (set name value) area)
+  of-pairs : (g : name_check name ≡ good) (ps : List Pair) → parse area ≡ parsed ps → SetDone name value area (call_area (set name value) area)
   of-pairs g ps r =
       let c = call-parsed (set name value) area (check-named name (set_to value) ∙ g) ps r in
       split-room (length (pairs_bytes (set_pair name value ps)) + 1) (length area)
@@ -126,20 +124,20 @@ module _ (n : ℕ) (name value area : List ℕ) (h : code_from n (call_area (set
 
 -- ---- a set and then a read, on an image
 
-module _ (I : List ℕ) (p : Partition) (name value buffer : List ℕ) (e : common_of I ≡ At p) where
-  set-then-read : SetDone name value (area_of I (At p)) (call_area (set name value) (area_of I (At p))) → length value ≤ length buffer
+module _ (I : List ℕ) (p : Partition) (name value buffer : List ℕ) (e : common_of I ≡ Ok p) where
+  set-then-read : SetDone name value (area_of I (Ok p)) (call_area (set name value) (area_of I (Ok p))) → length value ≤ length buffer
       → (call_image (read name buffer) (call_image (set name value) I).image).told ≡ value_told value buffer
   set-then-read d l =
       let qs : List Pair = set_pair name value d.pairs in
       let m = common-among I p e in
-      let area : List ℕ = area_bytes (length (area_of I (At p))) qs in
-      let k : length area ≡ length (area_of I (At p)) = length-area (length (area_of I (At p))) qs d.room in
-      let g : GoodPairs [] qs = good-set value d.named (stands-none name) (area-read (area_of I (At p)) d.pairs d.reads).good in
+      let area : List ℕ = area_bytes (length (area_of I (Ok p))) qs in
+      let k : length area ≡ length (area_of I (Ok p)) = length-area (length (area_of I (Ok p))) qs d.room in
+      let g : GoodPairs [] qs = good-set value d.named (stands-none name) (area-read (area_of I (Ok p)) d.pairs d.reads).good in
       let q : (call_image (set name value) I).image ≡ pasted I (p.offset + 16) area =
-      ap (λ (x : Result). x.image) (call-image (set name value) I p e) ∙ ap (pasted I (p.offset + 16)) d.left in
+      ap (λ (x : ImageOutcome). x.image) (call-image (set name value) I p e) ∙ ap (pasted I (p.offset + 16)) d.left in
       ap (λ (J : List ℕ). (call_image (read name buffer) J).told) q
       ∙ read_told_lem (pasted I (p.offset + 16) area) p qs name value buffer (common-kept I p e _ (pasted-kept I p m area k))
-      (ap parse (area-new I p m area k) ∙ parse-area (length (area_of I (At p))) g) (lookup-set name value d.pairs) l
+      (ap parse (area-new I p m area k) ∙ parse-area (length (area_of I (Ok p))) g) (lookup-set name value d.pairs) l
 
 -- what is set reads back the same, on every image
 pub set-read : (I name value buffer : List ℕ) → (call_image (set name value) I).told.code ≡ 0 → length value ≤ length buffer
@@ -149,18 +147,18 @@ set-read I name value buffer h l =
     (λ w. split-found (common_of I)
     (λ p e. told-reads (call_image (read name buffer) (call_image (set name value) I).image).told value buffer
     (set-then-read I p name value buffer e
-    (set-done (p.offset + 16) name value (area_of I (At p))
-    (sym (ap (λ (x : Result). x.told.code) (call-image (set name value) I p e)) ∙ h)) l))
-    (λ x e. absurd (refused-code x (sym (ap (λ (y : Result). y.told.code) (image-refused (set name value) I w x e)) ∙ h))))
-    (λ k w. absurd (refused-code (BadName k) (sym (ap (λ (y : Result). y.told.code) (image-misnamed (set name value) I k w)) ∙ h)))
+    (set-done (p.offset + 16) name value (area_of I (Ok p))
+    (sym (ap (λ (x : ImageOutcome). x.told.code) (call-image (set name value) I p e)) ∙ h)) l))
+    (λ x e. absurd (refused-code x (sym (ap (λ (y : ImageOutcome). y.told.code) (image-refused (set name value) I w x e)) ∙ h))))
+    (λ k w. absurd (refused-code (BadName k) (sym (ap (λ (y : ImageOutcome). y.told.code) (image-misnamed (set name value) I k w)) ∙ h)))
 
 -- a variable reads as its entry says
 pub entry_read : (I : List ℕ) → AllBytes I → (p : Partition) (es : List Entry) (name value buffer : List ℕ) → OnlyCommon I p
     → WellFormed es (area_at I p.offset) → Holds name es value → length value ≤ length buffer → Reads (call_image (read name buffer) I).told value
 entry_read I b p es name value buffer f w h l =
-    let e : common_of I ≡ At p = (common-exactly I b p).1 f in
+    let e : common_of I ≡ Ok p = (common-exactly I b p).1 f in
     let A = among-area I p (common-among I p e) in
-    let k = (parse-exactly (area_at I p.offset) es (rw A at (area-bytes I (At p) b))).1 w in
+    let k = (parse-exactly (area_at I p.offset) es (rw A at (area-bytes I (Ok p) b))).1 w in
     told-reads (call_image (read name buffer) I).told value buffer
     (read_told_lem I p k.0 name value buffer e (ap parse A ∙ k.1)
     ((found-exactly name value k.0).1 (rw k.2 h)) l)

@@ -14,8 +14,7 @@ use Rattle.pairs.specs.Area.{Pair, pairs_bytes}
 use Rattle.variables.specs.Edits.{area_bytes, canonical_pair, set_pair, remove_pair, normalize_pairs, Lookup, found, missing, lookup}
 use Rattle.pairs.specs.Rules.{Entry}
 use Rattle.pairs.proofs.ParseLaws.{pairs-none, length-pair, length_pairs, pair-front}
-use Rattle.variables.proofs.EditLaws.{area-is, set-none, set_first, set_next, remove-none, remove_first, remove-next, lookup-none, lookup_first}
-use Rattle.variables.proofs.EditLaws.{lookup-next, normalize-none, normalize-more}
+use Rattle.variables.proofs.EditLaws.{area-is, set-none, set_first, set_next, remove-none, remove_first, remove-next, lookup-none, lookup_first, lookup-next, normalize-none, normalize-more}
 use Rattle.pairs.proofs.EntryLaws.{entry_of, entries_of}
 use Rattle.demands.specs.Model.{same, new_entry, total, set_entry, drop_entry, new_sizes, Value, some, none, value_of, canonical_bytes, canonical_area}
 

@@ -14,7 +14,7 @@ use Rattle.header.specs.Checksum.{sum_from}
 use Rattle.header.specs.Header.{header_at, name_at, validity_of, validity_at}
 use Rattle.header.specs.Rules.{blocks_at}
 use Rattle.partition_name.specs.Name.{same_name, padded, matches_name}
-use Rattle.partitions.specs.declared.Found.TheVariants.{At}
+use Rattle.std.specs.Prelude.{Ok}
 use Rattle.partitions.specs.Walk.{allowed_length, partition_of, past_of, step_at, walk_from, walk}
 use Rattle.partitions.specs.Find.{matches, first_match, only_match, only_by, only_of}
 use Rattle.partitions.specs.Cover.{area_at}
@@ -56,7 +56,7 @@ abbrev held : List Entry
 held = record { name = 0x61 ∷ []; value = 0x31 ∷ []; size = 4 } ∷ []
 
 -- and it is the partition of two blocks at 0
-found : (common_of E ≡ At first) × (common_of L ≡ At first)
+found : (common_of E ≡ Ok first) × (common_of L ≡ Ok first)
 unfolding common_of only_of only_by only_match first_match matches matches_name same_name padded
     walk walk_from step_at allowed_length partition_of past_of validity_at validity_of header_at name_at sum_from
 found = (refl, refl)

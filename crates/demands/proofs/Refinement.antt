@@ -7,7 +7,7 @@ use lib.ListN.{length}
 use Rattle.lists.specs.Bytes.{AllBytes}
 use Rattle.lists.specs.Pasted.{pasted}
 use Rattle.partitions.specs.declared.Partition.{Partition}
-use Rattle.partitions.specs.declared.Found.TheVariants.{At}
+use Rattle.std.specs.Prelude.{Ok}
 use Rattle.partitions.specs.Find.{area_of}
 use Rattle.partitions.specs.Cover.{area_at, OutsideKept}
 use Rattle.partitions.proofs.FrameLaws.{among-area, pasted-kept, area-new, bytes-new, area-bytes, kept_same, kept_again}
@@ -16,7 +16,7 @@ use Rattle.pairs.specs.Rules.{Entry, WellFormed}
 use Rattle.pairs.proofs.EntryLaws.{entries_of, parse-exactly}
 use Rattle.variables.specs.Calls.{Call, normalize, Outcome, call_area}
 use Rattle.nvram.specs.Common.{OnlyCommon, common_of}
-use Rattle.nvram.specs.Calls.{Result, call_image}
+use Rattle.nvram.specs.Calls.{ImageOutcome, call_image}
 use Rattle.nvram.proofs.CommonLaws.{common-exactly, common-among, common-kept}
 use Rattle.nvram.proofs.CallLaws.{call-image}
 use Rattle.demands.specs.Library.{Results, run_image}
@@ -26,11 +26,11 @@ use Rattle.demands.proofs.Agree.{model_of, InForm, in-form-area, area-in-form, A
 
 -- the area of `common` at p
 abbrev area_in : Partition → List ℕ → List ℕ
-area_in p I = area_of I (At p)
+area_in p I = area_of I (Ok p)
 
 -- an image whose one `common` stands at p, with an area of the pairs ps
 record State (p : Partition) (I : List ℕ) (ps : List Pair) : Type 0 where
-  place : common_of I ≡ At p
+  place : common_of I ≡ Ok p
   reads : parse (area_in p I) ≡ parsed ps
   bytes : AllBytes I
 
@@ -102,13 +102,13 @@ module _ (p : Partition) (I : List ℕ) (ps : List Pair) (h : State p I ps) (cal
   from = model_of (area_in p I) ps
 
   one-agree : Agree (p.offset + 16) call (area_in p I) ps (call_area call (area_in p I)) (call_model call from)
-  one-agree = agree (p.offset + 16) (area_in p I) ps h.reads (area-bytes I (At p) h.bytes) call b
+  one-agree = agree (p.offset + 16) (area_in p I) ps h.reads (area-bytes I (Ok p) h.bytes) call b
 
   one_told : (call_image call I).told ≡ (call_model call from).told
-  one_told = ap (λ (r : Result). r.told) (call-image call I p h.place) ∙ one-agree.told
+  one_told = ap (λ (r : ImageOutcome). r.told) (call-image call I p h.place) ∙ one-agree.told
 
   one : Leads p I ps (call_image call I).image (call_model call from).model (call ≡ normalize)
-  one = leads-as (ap (λ (r : Result). r.image) (call-image call I p h.place)) refl (leads-area p I ps h one-agree)
+  one = leads-as (ap (λ (r : ImageOutcome). r.image) (call-image call I p h.place)) refl (leads-area p I ps h one-agree)
 
 -- ---- a list of calls
 
@@ -122,7 +122,7 @@ unfolding run_image run_model
 together-none p I ps h = record { told = refl; leads = leads-none p I ps h }
 
 -- a call and those after it; m is the model that the call leaves
-together-more : (p : Partition) (I : List ℕ) (ps : List Pair) (call : Call) (calls : List Call) (r : Result) (s : ModelResult)
+together-more : (p : Partition) (I : List ℕ) (ps : List Pair) (call : Call) (calls : List Call) (r : ImageOutcome) (s : ModelResult)
     (l : Leads p I ps r.image s.model (call ≡ normalize))
     → r.told ≡ s.told → Together p r.image l.pairs calls (run_image calls r.image) (run_model calls (model_of (area_in p r.image) l.pairs))
     → Together p I ps (call ∷ calls) (record { told = r.told ∷ (run_image calls r.image).told; image = (run_image calls r.image).image })
@@ -167,7 +167,7 @@ module _ (p : Partition) (I : List ℕ) (ps : List Pair) (calls : List Call) (h 
     last-formed : WellFormed final.entries (area_at last p.offset)
     last-formed =
         rw (← last-area, last-entries)
-        ((parse-exactly (area_in p last) (entries_of k.pairs) (area-bytes last (At p) k.state.bytes)).0 (k.pairs, k.state.reads, refl))
+        ((parse-exactly (area_in p last) (entries_of k.pairs) (area-bytes last (Ok p) k.state.bytes)).0 (k.pairs, k.state.reads, refl))
 
     last-canonical : (area_in p I ≡ canonical_area (length (area_in p I)) (entries_of ps)) ⊎ Normalizes calls
         → area_at last p.offset ≡ canonical_area (length (area_in p I)) final.entries
@@ -195,8 +195,8 @@ module _ (p : Partition) (I : List ℕ) (ps : List Pair) (calls : List Call) (h 
 pub demand-3 : (I : List ℕ) (p : Partition) (es : List Entry) (calls : List Call) → AllBytes I → CallsBytes calls → OnlyCommon I p
     → WellFormed es (area_at I p.offset) → Demand3 I p es calls
 demand-3 I p es calls b h f w =
-    let e : common_of I ≡ At p = (common-exactly I b p).1 f in
+    let e : common_of I ≡ Ok p = (common-exactly I b p).1 f in
     let A = among-area I p (common-among I p e) in
-    let k = (parse-exactly (area_at I p.offset) es (rw A at (area-bytes I (At p) b))).1 w in
+    let k = (parse-exactly (area_at I p.offset) es (rw A at (area-bytes I (Ok p) b))).1 w in
     let s : State p I k.0 = record { place = e; reads = ap parse A ∙ k.1; bytes = b } in
     by-rules p I k.0 calls s (together calls p I k.0 s h) es k.2

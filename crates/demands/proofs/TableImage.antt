@@ -12,24 +12,20 @@ use Rattle.errors.specs.declared.Error.TheVariants.{NoPartition, BadName}
 use Rattle.errors.specs.Errors.{header_code, code_of, offset_of}
 use Rattle.header.specs.Rules.{Breaks}
 use Rattle.partitions.specs.declared.Partition.{Partition}
-use Rattle.partitions.specs.declared.Checked.{Checked}
-use Rattle.partitions.specs.declared.Checked.TheVariants.{Accepted as Accepts, Refused as Rejects}
-use Rattle.partitions.specs.declared.Found.{Found}
-use Rattle.partitions.specs.declared.Found.TheVariants.{At, Refused}
-use Rattle.partitions.specs.Find.{check_of, index_of, find_of}
+use Rattle.std.specs.Prelude.{Result, Ok, Err}
+use Rattle.partitions.specs.Find.{Found, check_of, index_of, find_of}
 use Rattle.partitions.specs.Cover.{Rejected, PartitionCount, FirstNamed, NotNamed, rejected, second, absent, Indexed, NotIndexed, area_at}
 use Rattle.partitions.proofs.CoverLaws.{check-accepts, check-refuses}
 use Rattle.partitions.proofs.FoundLaws.{find_first, find-refuses, index_at, index-refuses}
 use Rattle.partitions.proofs.AreaLaws.{found_among, area-refused}
 use Rattle.partitions.proofs.FrameLaws.{among-area}
-use Rattle.names.specs.declared.NameCheck.TheVariants.{Good, Wrong}
-use Rattle.names.specs.Name.{name_check}
+use Rattle.names.specs.Name.{good, wrong, name_check}
 use Rattle.names.specs.Rules.{FirstWrong}
 use Rattle.names.proofs.NameLaws.{check-good-exactly, check-wrong-exactly}
 use Rattle.variables.specs.Calls.{Call, named, normalize, count, call_check}
 use Rattle.variables.proofs.CallLaws.{check-named, check-normalize, check-count}
 use Rattle.nvram.specs.Common.{SecondCommon, NotOnlyCommon, common_of}
-use Rattle.nvram.specs.Calls.{Result, refused_call, call_image}
+use Rattle.nvram.specs.Calls.{ImageOutcome, refused_call, call_image}
 use Rattle.nvram.proofs.CommonLaws.{common-refuses}
 use Rattle.nvram.proofs.CallLaws.{image-misnamed, image-refused}
 use Rattle.demands.specs.Requests.{Request, variable, check, partition, find, area, Seen, refuses, tells, shows, hands}
@@ -38,7 +34,7 @@ use Rattle.demands.specs.Library.{seen_call, seen_check, seen_find, seen_area, s
 
 -- ---- 11
 
-pub well-named : (call : Call) → WellNamed (variable call) → call_check call ≡ Good
+pub well-named : (call : Call) → WellNamed (variable call) → call_check call ≡ good
 well-named (named name action) w = check-named name action ∙ (check-good-exactly name).1 (w name by_name)
 well-named normalize w = check-normalize
 well-named count w = check-count
@@ -46,20 +42,20 @@ well-named count w = check-count
 taken-name : {call : Call} {name : List ℕ} → Takes (variable call) name → call_check call ≡ name_check name
 taken-name (by_name {name = name} {action = action}) = check-named name action
 
-pub named-well : (call : Call) → call_check call ≡ Good → WellNamed (variable call)
+pub named-well : (call : Call) → call_check call ≡ good → WellNamed (variable call)
 named-well call t name k = (check-good-exactly name).0 (sym (taken-name k) ∙ t)
 
-pub eleven-row : (call : Call) (I : List ℕ) (at : ℕ) → call_check call ≡ Wrong at → Answers I (variable call) (refuses (variable call) I 11 at)
+pub eleven-row : (call : Call) (I : List ℕ) (at : ℕ) → call_check call ≡ wrong at → Answers I (variable call) (refuses (variable call) I 11 at)
 eleven-row (named name action) I at e = Answers.eleven by_name ((check-wrong-exactly name at).0 (sym (check-named name action) ∙ e))
 eleven-row normalize I at e = clash (cc (check-normalize))
 eleven-row count I at e = clash (cc (check-count))
 
 -- a refusal by the image or the caller's name, as it is seen
-refusal-seen : (call : Call) (I : List ℕ) (e : Error) (r : Result) → r ≡ refused_call e call I
+refusal-seen : (call : Call) (I : List ℕ) (e : Error) (r : ImageOutcome) → r ≡ refused_call e call I
     → seen_call r ≡ refuses (variable call) I (code_of e) (offset_of e)
 refusal-seen call I e r q = ap seen_call q
 
-pub misnamed-seen : (call : Call) (I : List ℕ) (at : ℕ) → call_check call ≡ Wrong at → seen (variable call) I ≡ refuses (variable call) I 11 at
+pub misnamed-seen : (call : Call) (I : List ℕ) (at : ℕ) → call_check call ≡ wrong at → seen (variable call) I ≡ refuses (variable call) I 11 at
 misnamed-seen call I at t = refusal-seen call I (BadName at) (call_image call I) (image-misnamed call I at t)
 
 pub eleven-seen : {name : List ℕ} {i : ℕ} (r : Request) (I : List ℕ) → Takes r name → FirstWrong name i → seen r I ≡ refuses r I 11 i
@@ -110,11 +106,11 @@ moving f (inl a) = inl a
 moving f (inr b) = inr (f b)
 
 module _ (I : List ℕ) (bytes : AllBytes I) where
-  pub refused-call : (call : Call) (e : Error) → call_check call ≡ Good → common_of I ≡ Refused e
+  pub refused-call : (call : Call) (e : Error) → call_check call ≡ good → common_of I ≡ Err e
       → seen (variable call) I ≡ refuses (variable call) I (code_of e) (offset_of e)
   refused-call call e t f = refusal-seen call I e (call_image call I) (image-refused call I t e f)
 
-  refused-area : (signature : ℕ) (name : List ℕ) (e : Error) → seen_area (Refused e) I ≡ refuses (area signature name) I (code_of e) (offset_of e)
+  refused-area : (signature : ℕ) (name : List ℕ) (e : Error) → seen_area (Err e) I ≡ refuses (area signature name) I (code_of e) (offset_of e)
   refused-area signature name e =
       λ i. record {
         code = code_of e;
@@ -131,7 +127,7 @@ module _ (I : List ℕ) (bytes : AllBytes I) where
   pub missed-seen : (r : Request) (e : Error) → WellNamed r → Missed I r e → seen r I ≡ refuses r I (code_of e) (offset_of e)
   missed-seen (variable call) e w m =
       refused-call call e (well-named call w) ((common-refuses I bytes e).1 (missed-common m))
-  missed-seen check e w (inl r) = ap (λ (c : Checked). seen_check c I) ((check-refuses I bytes e).1 r)
+  missed-seen check e w (inl r) = ap (λ (c : Result ℕ Error). seen_check c I) ((check-refuses I bytes e).1 r)
   missed-seen check e w (inr b) = elim b.1 [ ]
   missed-seen (partition n) e w m =
       ap (λ (f : Found). seen_find f I) ((index-refuses I bytes n e).1 (moving (λ b. (b.0, absent-index b.1)) m))
@@ -151,7 +147,7 @@ module _ (I : List ℕ) (bytes : AllBytes I) where
   -- ---- the image check, a partition, and its area
 
   pub check-seen : (n : ℕ) → PartitionCount I n → seen check I ≡ tells n [] I
-  check-seen n c = ap (λ (c : Checked). seen_check c I) ((check-accepts I bytes n).1 c)
+  check-seen n c = ap (λ (c : Result ℕ Error). seen_check c I) ((check-accepts I bytes n).1 c)
 
   pub partition-seen : (n : ℕ) (p : Partition) → Indexed I n p → seen (partition n) I ≡ shows p I
   partition-seen n p x = ap (λ (f : Found). seen_find f I) ((index_at I bytes n p).1 x)
@@ -168,33 +164,33 @@ module _ (I : List ℕ) (bytes : AllBytes I) where
   pub check-row : Answers I check (seen check I)
   check-row = go (check_of I) refl
     where
-      go : (c : Checked) → check_of I ≡ c → Answers I check (seen_check c I)
-      go (Accepts n) e = Answers.done-check ((check-accepts I bytes n).0 e)
-      go (Rejects x) e = missed-row check I x (λ name k. elim k [ ]) (inl ((check-refuses I bytes x).0 e))
+      go : (c : Result ℕ Error) → check_of I ≡ c → Answers I check (seen_check c I)
+      go (Ok n) e = Answers.done-check ((check-accepts I bytes n).0 e)
+      go (Err x) e = missed-row check I x (λ name k. elim k [ ]) (inl ((check-refuses I bytes x).0 e))
 
   pub partition-row : (n : ℕ) → Answers I (partition n) (seen (partition n) I)
   partition-row n = go (index_of I n) refl
     where
       go : (f : Found) → index_of I n ≡ f → Answers I (partition n) (seen_find f I)
-      go (At p) e = Answers.done-partition ((index_at I bytes n p).0 e)
-      go (Refused x) e = missed-row (partition n) I x (λ name k. elim k [ ]) (moving (λ b. (b.0, no_index b.1)) ((index-refuses I bytes n x).0 e))
+      go (Ok p) e = Answers.done-partition ((index_at I bytes n p).0 e)
+      go (Err x) e = missed-row (partition n) I x (λ name k. elim k [ ]) (moving (λ b. (b.0, no_index b.1)) ((index-refuses I bytes n x).0 e))
 
   module _ (signature : ℕ) (name : List ℕ) where
     pub find-row : Answers I (find signature name) (seen (find signature name) I)
     find-row = go (find_of I signature name) refl
       where
         go : (f : Found) → find_of I signature name ≡ f → Answers I (find signature name) (seen_find f I)
-        go (At p) e = Answers.done-find ((find_first I signature name bytes p).0 e)
-        go (Refused x) e =
+        go (Ok p) e = Answers.done-find ((find_first I signature name bytes p).0 e)
+        go (Err x) e =
             missed-row (find signature name) I x (λ n k. elim k [ ]) (moving (λ b. (b.0, no_name b.1)) ((find-refuses I signature name bytes x).0 e))
 
     pub area-row : Answers I (area signature name) (seen (area signature name) I)
     area-row = go (find_of I signature name) refl
       where
         go : (f : Found) → find_of I signature name ≡ f → Answers I (area signature name) (seen_area f I)
-        go (At p) e =
+        go (Ok p) e =
             subst (λ (x : List ℕ). Answers I (area signature name) (hands x I)) (sym (among-area I p (found_among I signature name p e)))
             (Answers.done-area ((find_first I signature name bytes p).0 e))
-        go (Refused x) e =
+        go (Err x) e =
             subst (λ (s : Seen). Answers I (area signature name) s) (sym (refused-area signature name x))
             (missed-row (area signature name) I x (λ n k. elim k [ ]) (moving (λ b. (b.0, no-area b.1)) ((find-refuses I signature name bytes x).0 e)))

@@ -8,7 +8,7 @@ use lib.Seq.{take_at, drop_at}
 use Rattle.lists.specs.Pasted.{pasted}
 use Rattle.lists.proofs.PastedLaws.{pasted-first}
 use Rattle.partitions.specs.declared.Partition.{Partition}
-use Rattle.partitions.specs.declared.Found.TheVariants.{At}
+use Rattle.std.specs.Prelude.{Ok}
 use Rattle.partitions.specs.Find.{area_of}
 use Rattle.partitions.proofs.AreaLaws.{Among}
 use Rattle.partitions.proofs.FrameLaws.{among-area, among-kept, kept-pasted, pasted-kept, area-new}
@@ -16,7 +16,7 @@ use Rattle.demands.specs.Table.{AreaBecomes, Holding}
 
 module _ (I : List ℕ) (p : Partition) (m : Among I p) where
   -- the image with an area of the same length in its place
-  pub pasted-becomes : (area' : List ℕ) → length area' ≡ length (area_of I (At p))
+  pub pasted-becomes : (area' : List ℕ) → length area' ≡ length (area_of I (Ok p))
       → AreaBecomes I p.offset area' (pasted I (p.offset + 16) area')
   pasted-becomes area' n =
       let J : List ℕ = pasted I (p.offset + 16) area' in
@@ -26,7 +26,7 @@ module _ (I : List ℕ) (p : Partition) (m : Among I p) where
   -- and there is no other
   pub becomes-pasted : {area' J : List ℕ} → AreaBecomes I p.offset area' J → pasted I (p.offset + 16) area' ≡ J
   becomes-pasted {area'} {J} b =
-      let a : area_of J (At p) ≡ area' = among-area J p (among-kept I p m J b.outside) ∙ b.inside in
+      let a : area_of J (Ok p) ≡ area' = among-area J p (among-kept I p m J b.outside) ∙ b.inside in
       ap (pasted I (p.offset + 16)) (sym a) ∙ kept-pasted I p m J b.outside
 
 -- a value at the start of a buffer

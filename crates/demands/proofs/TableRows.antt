@@ -13,10 +13,10 @@ use Rattle.errors.specs.declared.AreaFault.{AreaFault}
 use Rattle.errors.specs.declared.AreaFault.TheVariants.{AreaEnd, StoredName, Escape, Repeated}
 use Rattle.errors.specs.declared.Error.TheVariants.{BadArea, NoVariable, NoRoom, ShortBuffer}
 use Rattle.errors.specs.Errors.{area_code}
-use Rattle.partitions.specs.declared.Found.{Found}
-use Rattle.partitions.specs.declared.Found.TheVariants.{At, Refused}
+use Rattle.partitions.specs.Find.{Found}
+use Rattle.std.specs.Prelude.{Ok, Err}
 use Rattle.partitions.specs.Cover.{area_at}
-use Rattle.names.specs.declared.NameCheck.TheVariants.{Good}
+use Rattle.names.specs.Name.{good}
 use Rattle.names.proofs.NameLaws.{split-check}
 use Rattle.pairs.specs.Area.{Pair, pairs_bytes, Parse, parsed, faulty, parse}
 use Rattle.pairs.specs.Rules.{Entry, Pairs, Once, FaultAt}
@@ -37,8 +37,7 @@ use Rattle.demands.specs.Table.{WellNamed, by_name, AtPair, Answers}
 use Rattle.demands.specs.Library.{seen}
 use Rattle.demands.specs.Demands.{CallBytes, RequestBytes}
 use Rattle.demands.proofs.ModelLaws.{count_entries}
-use Rattle.demands.proofs.TableImage.{named-well, eleven-row, misnamed-seen, refused-call, unfound-row, check-row, partition-row}
-use Rattle.demands.proofs.TableImage.{find-row, area-row}
+use Rattle.demands.proofs.TableImage.{named-well, eleven-row, misnamed-seen, refused-call, unfound-row, check-row, partition-row, find-row, area-row}
 use Rattle.demands.proofs.TablePlaces.{pasted-holding}
 use Rattle.demands.proofs.TableSeen.{CommonAt, seen_outcome, common-bytes, edit-becomes, call-seen, refuse-seen, answer-seen}
 
@@ -158,7 +157,7 @@ module _ (I : List ℕ) (bytes : AllBytes I) where
       pairs-row count b n = count-row n
 
     -- a call on the area that was found
-    common-row : (call : Call) → CallBytes call → call_check call ≡ Good → Answers I (variable call) (seen (variable call) I)
+    common-row : (call : Call) → CallBytes call → call_check call ≡ good → Answers I (variable call) (seen (variable call) I)
     common-row call b t = same_row (call-seen I a w call t) (go (parse (area_at I a)) refl)
       where
         go : (x : Parse) → parse (area_at I a) ≡ x → Answers I (variable call) (seen_outcome I a (call_by (parse (area_at I a)) call (area_at I a)))
@@ -172,9 +171,9 @@ module _ (I : List ℕ) (bytes : AllBytes I) where
       (λ t. go t (common_of I) refl)
       (λ at t. same_row (misnamed-seen call I at t) (eleven-row call I at t))
     where
-      go : call_check call ≡ Good → (f : Found) → common_of I ≡ f → Answers I (variable call) (seen (variable call) I)
-      go t (At p) e = common-row p.offset (record { partition = p; found = e; at_offset = refl }) call b t
-      go t (Refused x) e =
+      go : call_check call ≡ good → (f : Found) → common_of I ≡ f → Answers I (variable call) (seen (variable call) I)
+      go t (Ok p) e = common-row p.offset (record { partition = p; found = e; at_offset = refl }) call b t
+      go t (Err x) e =
           same_row (refused-call I bytes call x t e)
           (unfound-row call I x (named-well call t) ((common-refuses I bytes x).0 e))
   seen-row check b = check-row I bytes

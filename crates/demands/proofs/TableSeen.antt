@@ -7,9 +7,9 @@ use Rattle.lists.specs.Bytes.{AllBytes}
 use Rattle.lists.specs.Pasted.{pasted}
 use Rattle.errors.specs.declared.Error.{Error}
 use Rattle.errors.specs.Errors.{code_of, offset_of, moved}
-use Rattle.names.specs.declared.NameCheck.TheVariants.{Good}
+use Rattle.names.specs.Name.{good}
 use Rattle.partitions.specs.declared.Partition.{Partition}
-use Rattle.partitions.specs.declared.Found.TheVariants.{At}
+use Rattle.std.specs.Prelude.{Ok}
 use Rattle.partitions.specs.Find.{area_of}
 use Rattle.partitions.specs.Cover.{area_at}
 use Rattle.partitions.proofs.AreaLaws.{Among}
@@ -30,7 +30,7 @@ use Rattle.demands.proofs.TablePlaces.{pasted-becomes, becomes-pasted}
 -- `common` stands at an offset
 pub record CommonAt (I : List ℕ) (a : ℕ) : Type 0 where
   pub partition : Partition
-  pub found : common_of I ≡ At partition
+  pub found : common_of I ≡ Ok partition
   pub at_offset : partition.offset ≡ a
 
 pub pair-common : {I : List ℕ} {call : Call} {a : ℕ} {es : List Entry} {rest : List ℕ} → AllBytes I → AtPair call I a es rest → CommonAt I a
@@ -45,11 +45,11 @@ module _ (I : List ℕ) (a : ℕ) (w : CommonAt I a) where
   among : Among I w.partition
   among = common-among I w.partition w.found
 
-  area-here : area_of I (At w.partition) ≡ area_at I a
+  area-here : area_of I (Ok w.partition) ≡ area_at I a
   area-here = among-area I w.partition among ∙ ap (area_at I) w.at_offset
 
   pub common-bytes : AllBytes I → AllBytes (area_at I a)
-  common-bytes bytes = rw area-here at (area-bytes I (At w.partition) bytes)
+  common-bytes bytes = rw area-here at (area-bytes I (Ok w.partition) bytes)
 
   area-kept : pasted I (a + 16) (area_at I a) ≡ I
   area-kept = sym (λ i. pasted I (w.at_offset i + 16) (area-here i)) ∙ area_same I w.partition w.found
@@ -62,7 +62,7 @@ module _ (I : List ℕ) (a : ℕ) (w : CommonAt I a) where
   pub becomes-edit : {area' J : List ℕ} → AreaBecomes I a area' J → pasted I (a + 16) area' ≡ J
   becomes-edit b = rw w.at_offset at (becomes-pasted I w.partition among (rw (← w.at_offset) at b))
 
-  pub call-seen : (call : Call) → call_check call ≡ Good → seen (variable call) I ≡ seen_outcome I a (call_by (parse (area_at I a)) call (area_at I a))
+  pub call-seen : (call : Call) → call_check call ≡ good → seen (variable call) I ≡ seen_outcome I a (call_by (parse (area_at I a)) call (area_at I a))
   call-seen call t =
       ap seen_call (call-image call I w.partition w.found)
       ∙ (λ i. seen_outcome I (w.at_offset i) (call_area call (area-here i)))

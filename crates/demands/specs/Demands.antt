@@ -1,8 +1,7 @@
 -- The three demands as statements; proofs/ proves them for every image, request and list of calls.
-use Rattle.std.specs.Prelude.{ℕ, ◌≤◌, ◌≡◌, List, [], ◌∷◌, ◌≢◌, ◌⊎◌, ◌↔◌, length, take}
+use Rattle.std.specs.Prelude.{ℕ, ◌≤◌, ◌≡◌, List, [], ◌∷◌, ◌≢◌, ◌⊎◌, ◌↔◌, length, take, Ok}
 use Rattle.lists.specs.Bytes.{AllBytes}
 use Rattle.partitions.specs.declared.Partition.{Partition}
-use Rattle.partitions.specs.declared.Checked.TheVariants.{Accepted}
 use Rattle.partitions.specs.Find.{check_of}
 use Rattle.partitions.specs.Cover.{PartitionCount, area_at, OutsideKept}
 use Rattle.values.specs.Rules.{Spells, Canonical}
@@ -54,7 +53,7 @@ pub record Demand1 (r : Request) (I : List ℕ) : Type 0 where
 -- DEMAND 2, of an image
 pub record Demand2 (I : List ℕ) : Type 0 where
   -- accepted exactly when sound partitions cover it
-  pub accepted : (n : ℕ) → (check_of I ≡ Accepted n) ↔ PartitionCount I n
+  pub accepted : (n : ℕ) → (check_of I ≡ Ok n) ↔ PartitionCount I n
   -- a variable reads as the zero and 0xFF runs of its pair say
   pub reads : (p : Partition) (es : List Entry) (name value buffer : List ℕ) → OnlyCommon I p → WellFormed es (area_at I p.offset)
       → Holds name es value → length value ≤ length buffer → ((call_image (read name buffer) I).told.code ≡ 0)

@@ -1,18 +1,16 @@
 -- The examples of document 01 that are marked P, as one statement, E in literal bytes.
-use Rattle.std.specs.Prelude.{ℕ, ◌≡◌, refl, true, false, List, [], ◌∷◌, ◌++◌, take, drop, replicate}
+use Rattle.std.specs.Prelude.{ℕ, ◌≡◌, refl, true, false, List, [], ◌∷◌, ◌++◌, take, drop, replicate, Ok, Err}
 use Rattle.lists.specs.Bytes.{same_bytes, stands}
 use Rattle.lists.specs.Pasted.{pasted}
 use Rattle.header.specs.Checksum.{sum_from, sumcheck}
-use Rattle.header.specs.Header.{header_at, name_at, new_header, validity_of, validity_at}
-use Rattle.partitions.specs.declared.Checked.TheVariants.{Accepted, Refused}
+use Rattle.header.specs.Header.{header_at, name_at, fits_header, validity_of, validity_at}
 use Rattle.errors.specs.declared.HeaderFault.TheVariants.{ZeroLength, PastEnd}
 use Rattle.errors.specs.declared.Error.TheVariants.{ImageLength, BadHeader}
 use Rattle.partition_name.specs.Name.{same_name, padded, matches_name}
 use Rattle.partitions.specs.Walk.{allowed_length, partition_of, past_of, step_at, walk_from, walk}
 use Rattle.partitions.specs.Find.{checked_by, check_of, matches, first_match, find_by, find_of, only_match, only_by, only_of, area_of}
 use Rattle.partitions.specs.Examples.{E, with_area, common_covered, free_covered}
-use Rattle.names.specs.declared.NameCheck.TheVariants.{Good, Wrong}
-use Rattle.names.specs.Name.{name_byte, name_check_from, name_check}
+use Rattle.names.specs.Name.{good, wrong, name_byte, name_check_from, name_check}
 use Rattle.values.specs.Value.{run_byte, run, decode_from, decode, mark, full_escapes, rest_escape, run_bytes, encode_from, encode}
 use Rattle.pairs.specs.Scan.{stored_name, scan_name, scan_value, pair, cut, wrong_name, stand_at}
 use Rattle.pairs.specs.Area.{pair_bytes, pairs_bytes, parse_from, parse}
@@ -49,13 +47,13 @@ pub record Examples : Type 0 where
   pub one-4 : sumcheck (common_covered 4) ≡ 0xFF
   pub one-5 : sumcheck (common_covered 5) ≡ 0x01
   pub two : sumcheck free_covered ≡ 0x1A
-  pub three : check_of E ≡ Accepted 2
-  pub four-none : check_of [] ≡ Refused ImageLength
-  pub four-forty : check_of (take 40 E) ≡ Refused ImageLength
-  pub five-first : check_of (take 32 E) ≡ Accepted 1
-  pub five-past : check_of (0x70 ∷ 0xFD ∷ 0x00 ∷ 0x03 ∷ drop 4 (take 32 E)) ≡ Refused (BadHeader PastEnd 0)
-  pub five-zero : check_of (0x70 ∷ 0xFD ∷ 0x00 ∷ 0x00 ∷ drop 4 (take 32 E)) ≡ Refused (BadHeader ZeroLength 0)
-  pub zeros : check_of (replicate 16 0x00) ≡ Refused (BadHeader ZeroLength 0)
+  pub three : check_of E ≡ Ok 2
+  pub four-none : check_of [] ≡ Err ImageLength
+  pub four-forty : check_of (take 40 E) ≡ Err ImageLength
+  pub five-first : check_of (take 32 E) ≡ Ok 1
+  pub five-past : check_of (0x70 ∷ 0xFD ∷ 0x00 ∷ 0x03 ∷ drop 4 (take 32 E)) ≡ Err (BadHeader PastEnd 0)
+  pub five-zero : check_of (0x70 ∷ 0xFD ∷ 0x00 ∷ 0x00 ∷ drop 4 (take 32 E)) ≡ Err (BadHeader ZeroLength 0)
+  pub zeros : check_of (replicate 16 0x00) ≡ Err (BadHeader ZeroLength 0)
   pub six-set : call_image (set (0x62 ∷ []) (0x00 ∷ 0x00 ∷ 0xFF ∷ [])) E ≡ record { told = told 0 0 0; image = six }
   -- what 6 leaves is read into four bytes, and counted
   pub six-read : call_image (read (0x62 ∷ []) (replicate 4 0x05)) six
@@ -157,10 +155,10 @@ wrong-names = record {
 pub record Limits : Type 0 where
   pub image : allowed_length 1_048_576 ≡ true
   pub image-over : allowed_length 1_048_592 ≡ false
-  pub header : (new_header 0x70 (record { 0 = 65_535 }) (replicate 12 0x00)).allowed ≡ true
-  pub header-over : (new_header 0x70 (record { 0 = 65_536 }) (replicate 12 0x00)).allowed ≡ false
-  pub name : name_check (replicate 31 0x61) ≡ Good
-  pub name-over : name_check (replicate 32 0x61) ≡ Wrong 31
+  pub header : fits_header (record { 0 = 65_535 }) ≡ true
+  pub header-over : fits_header (record { 0 = 65_536 }) ≡ false
+  pub name : name_check (replicate 31 0x61) ≡ good
+  pub name-over : name_check (replicate 32 0x61) ≡ wrong 31
   pub stored-name : stand_at (replicate 31 0x61 ++ 0x3D ∷ 0x00 ∷ []) ≡ pair (replicate 31 0x61) [] []
   pub stored-name-over : stand_at (replicate 32 0x61 ++ 0x3D ∷ 0x00 ∷ []) ≡ wrong_name 31
   pub stored-name-cut : stand_at (replicate 31 0x61) ≡ cut
@@ -168,7 +166,7 @@ pub record Limits : Type 0 where
 
 -- they hold, by computing
 pub limits : Limits
-unfolding allowed_length new_header name_check name_check_from name_byte stand_at stored_name scan_name scan_value
+unfolding allowed_length fits_header name_check name_check_from name_byte stand_at stored_name scan_name scan_value
 limits = record {
   image = refl;
   image-over = refl;

@@ -1,15 +1,14 @@
 -- What the library answers to a request, and to a list of calls.
-use Rattle.std.specs.Prelude.{ℕ, List, [], ◌∷◌}
-use Rattle.partitions.specs.declared.Checked.{Checked}
-use Rattle.partitions.specs.declared.Found.{Found}
-use Rattle.partitions.specs.Find.{check_of, index_of, find_of, area_of}
+use Rattle.std.specs.Prelude.{ℕ, List, [], ◌∷◌, Result}
+use Rattle.errors.specs.declared.Error.{Error}
+use Rattle.partitions.specs.Find.{Found, check_of, index_of, find_of, area_of}
 use Rattle.partitions.specs.Views.{check_answer, find_answer}
 use Rattle.variables.specs.Calls.{Call}
-use Rattle.nvram.specs.Calls.{Told, Result, call_image}
+use Rattle.nvram.specs.Calls.{Told, ImageOutcome, call_image}
 use Rattle.demands.specs.Requests.{Request, variable, check, partition, find, area, Seen}
 
 -- what is seen of a call on variables
-abbrev pub seen_call : Result → Seen
+abbrev pub seen_call : ImageOutcome → Seen
 seen_call r =
     record {
       code = r.told.code;
@@ -24,12 +23,12 @@ seen_call r =
     }
 
 -- of the image check
-abbrev pub seen_check : Checked → List ℕ → Seen
+abbrev pub seen_check : Result ℕ Error → List ℕ → Seen
 seen_check c I =
     record {
       code = (check_answer c).code;
       offset = (check_answer c).offset;
-      amount = (check_answer c).partitions;
+      amount = (check_answer c).value;
       header = 0;
       blocks = 0;
       signature = 0;
@@ -45,9 +44,9 @@ seen_find f I =
       code = (find_answer f).code;
       offset = (find_answer f).offset;
       amount = 0;
-      header = (find_answer f).header;
-      blocks = (find_answer f).blocks;
-      signature = (find_answer f).signature;
+      header = (find_answer f).value.offset;
+      blocks = (find_answer f).value.blocks.0;
+      signature = (find_answer f).value.signature;
       part = [];
       buffer = [];
       image = I;
@@ -85,6 +84,6 @@ pub record Results : Type 0 where
 unfoldable pub run_image : List Call → List ℕ → Results
 run_image [] image = record { told = []; image = image }
 run_image (call ∷ calls) image =
-    let r : Result = call_image call image in
+    let r : ImageOutcome = call_image call image in
     let rs : Results = run_image calls r.image in
     record { told = r.told ∷ rs.told; image = rs.image }

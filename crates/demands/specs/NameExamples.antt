@@ -1,12 +1,10 @@
 -- Images in literal bytes whose partition names have bytes after their 0x00, and such whose names are nearly `common`.
-use Rattle.std.specs.Prelude.{ℕ, ◌≡◌, refl, List, [], ◌∷◌, ◌++◌, drop, replicate}
+use Rattle.std.specs.Prelude.{ℕ, ◌≡◌, refl, List, [], ◌∷◌, ◌++◌, drop, replicate, Ok, Err}
 use Rattle.lists.specs.Bytes.{same_bytes, stands}
 use Rattle.lists.specs.Pasted.{pasted}
 use Rattle.header.specs.Checksum.{sum_from}
 use Rattle.header.specs.Header.{header_at, name_at, validity_of, validity_at}
 use Rattle.partitions.specs.declared.Partition.{Partition}
-use Rattle.partitions.specs.declared.Checked.TheVariants.{Accepted, Refused}
-use Rattle.partitions.specs.declared.Found.TheVariants as Found
 use Rattle.errors.specs.declared.HeaderFault.TheVariants.{Checksum}
 use Rattle.errors.specs.declared.Error.TheVariants.{BadHeader, NoPartition}
 use Rattle.partition_name.specs.Name.{same_name, padded, matches_name}
@@ -56,16 +54,16 @@ beginning_only = 0x63 ∷ 0x6F ∷ 0x6D ∷ 0x6D ∷ 0x00 ∷ 0x6F ∷ 0x6E ∷ 
 
 pub record LeftoverNames : Type 0 where
   -- the checksum covers all twelve bytes: that of E no longer agrees
-  pub accepted : check_of L ≡ Accepted 2
-  pub covered : check_of (renamed 0xFD leftover) ≡ Refused (BadHeader Checksum 0)
+  pub accepted : check_of L ≡ Ok 2
+  pub covered : check_of (renamed 0xFD leftover) ≡ Err (BadHeader Checksum 0)
   -- `common` is found, by a name with a 0x00 of its own too, and not by thirteen bytes
-  pub found : find_of L 0x70 common ≡ Found.At first
-  pub own-zero : find_of L 0x70 (common ++ 0x00 ∷ 0x7A ∷ []) ≡ Found.At first
-  pub thirteen : find_of L 0x70 (common ++ replicate 7 0x00) ≡ Found.Refused NoPartition
+  pub found : find_of L 0x70 common ≡ Ok first
+  pub own-zero : find_of L 0x70 (common ++ 0x00 ∷ 0x7A ∷ []) ≡ Ok first
+  pub thirteen : find_of L 0x70 (common ++ replicate 7 0x00) ≡ Err NoPartition
   pub area : area_of L (find_of L 0x70 common) ≡ 0x61 ∷ 0x3D ∷ 0x31 ∷ 0x00 ∷ replicate 12 0x00
   -- of two whose names are the same, the first; the calls on variables refuse such an image (SecondCommons)
-  pub leftover-first : find_of (leftover_block ++ padded_block) 0x70 common ≡ Found.At block
-  pub padded-first : find_of (padded_block ++ leftover_block) 0x70 common ≡ Found.At block
+  pub leftover-first : find_of (leftover_block ++ padded_block) 0x70 common ≡ Ok block
+  pub padded-first : find_of (padded_block ++ leftover_block) 0x70 common ≡ Ok block
   -- the calls on variables go by it, and leave every byte of the header
   pub counted : call_image count L ≡ record { told = told 0 0 1; image = L }
   pub reads : call_image (read (0x61 ∷ []) (0x05 ∷ 0x05 ∷ [])) L

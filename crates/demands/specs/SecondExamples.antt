@@ -1,11 +1,9 @@
 -- Images in literal bytes with more than one `common`, and such with one or none beside partitions that are nearly `common`.
-use Rattle.std.specs.Prelude.{ℕ, ◌≡◌, refl, List, [], ◌∷◌, ◌++◌, take, drop, replicate}
+use Rattle.std.specs.Prelude.{ℕ, ◌≡◌, refl, List, [], ◌∷◌, ◌++◌, take, drop, replicate, Ok}
 use Rattle.lists.specs.Bytes.{same_bytes, stands}
 use Rattle.lists.specs.Pasted.{pasted}
 use Rattle.header.specs.Checksum.{sum_from}
 use Rattle.header.specs.Header.{header_at, name_at, validity_of, validity_at}
-use Rattle.partitions.specs.declared.Checked.TheVariants.{Accepted}
-use Rattle.partitions.specs.declared.Found.TheVariants as Found
 use Rattle.partition_name.specs.Name.{same_name, padded, matches_name}
 use Rattle.partitions.specs.Walk.{allowed_length, partition_of, past_of, step_at, walk_from, walk}
 use Rattle.partitions.specs.Find.{checked_by, check_of, at_index, index_by, index_of, matches, first_match, find_by, find_of, only_match, only_by, only_of, area_of}
@@ -15,7 +13,7 @@ use Rattle.pairs.specs.Scan.{stored_name, scan_name, scan_value, stand_at}
 use Rattle.pairs.specs.Area.{parse_from, parse}
 use Rattle.variables.specs.Calls.{set, remove, read, normalize, count, call_check, call_pairs, call_area}
 use Rattle.nvram.specs.Common.{common, common_of}
-use Rattle.nvram.specs.Calls.{Told, Result, call_image}
+use Rattle.nvram.specs.Calls.{Told, ImageOutcome, call_image}
 use Rattle.demands.specs.Examples.{told}
 use Rattle.demands.specs.NameExamples.{first, leftover_block, padded_block}
 
@@ -60,7 +58,7 @@ abbrev pub T : List ℕ
 T = held ++ held
 
 -- refused by 20 at an offset, with a buffer; and T as it was
-abbrev refused : List ℕ → Result
+abbrev refused : List ℕ → ImageOutcome
 refused buffer = record { told = record { code = 20; offset = 32; amount = 0; buffer = buffer }; image = T }
 
 -- what a count of an image tells
@@ -78,9 +76,9 @@ pub record SecondCommons : Type 0 where
   pub removes-unknown : call_image (remove (0x62 ∷ [])) T ≡ refused []
   pub normalizes : call_image normalize T ≡ refused []
   -- the other calls take the image
-  pub accepted : check_of T ≡ Accepted 2
-  pub index : index_of T 1 ≡ Found.At (record { offset = 32; blocks = record { 0 = 2 }; signature = 0x70 })
-  pub found : find_of T 0x70 common ≡ Found.At first
+  pub accepted : check_of T ≡ Ok 2
+  pub index : index_of T 1 ≡ Ok (record { offset = 32; blocks = record { 0 = 2 }; signature = 0x70 })
+  pub found : find_of T 0x70 common ≡ Ok first
   pub area : area_of T (find_of T 0x70 common) ≡ drop 16 held
   -- of three the second; it need not follow at once, nor hold the same, nor be as long
   pub three : counted (held ++ held ++ held) ≡ told 20 32 0

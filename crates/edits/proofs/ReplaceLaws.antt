@@ -11,31 +11,22 @@ use Rattle.lists.specs.Pasted.{pasted}
 use Rattle.lists.proofs.Tests.{split}
 use Rattle.lists.proofs.PastedLaws.{pasted-none}
 use Rattle.errors.specs.declared.Error.TheVariants.{NoRoom, NoVariable}
-use Rattle.pairs.specs.declared.Scanned.TheVariants as Scanned
+use Rattle.std.specs.Prelude.{Some, None, Ok}
+use Rattle.pairs.specs.declared.Scanned.{Scanned}
 use Rattle.pairs.specs.declared.Place.{Place}
-use Rattle.pairs.specs.declared.Place.TheVariants.{At, None}
-use Rattle.pairs.specs.Area.{Pair, pair_of, pair_bytes, pairs_bytes, Parse, parse}
-use Rattle.variables.specs.Edits.{area_bytes, canonical_pair, set_pair, remove_pair, Lookup, lookup, found, missing}
+use Rattle.pairs.specs.Area.{Pair, pair_of, pair_bytes, pairs_bytes, parse}
+use Rattle.variables.specs.Edits.{area_bytes, canonical_pair, set_pair, remove_pair, lookup, found, missing}
 use Rattle.variables.specs.Calls as Calls
-use Rattle.variables.specs.Calls.{Outcome, refuse, edited, done, refused, call_by, call_pairs}
+use Rattle.variables.specs.Calls.{Outcome, refuse, edited, done, refused, call_area}
 use Rattle.variables.specs.Helpers.{named_scan}
 use Rattle.pairs.specs.Helpers.{find_at}
-use Rattle.edits.specs.Helpers.{Used, tail_shifted, replace_reply, replace_area}
+use Rattle.edits.specs.Helpers.{tail_shifted, replace_reply, replace_area}
 use Rattle.pairs.proofs.ParseLaws.{area-read, read-room, pairs-append}
 use Rattle.variables.proofs.EditLaws.{set-nowhere, lookup-missing-exactly}
-use Rattle.variables.proofs.CallPlaces.{named-pairs, set-makes}
+use Rattle.variables.proofs.CallPlaces.{PairsOf, named-pairs, call-scanned, edit-refused, set-makes}
+use Rattle.variables.proofs.CallLaws as Laws
 use Rattle.edits.proofs.SpliceLaws.{pairs-spliced}
 use Rattle.variables.proofs.FoundLaws.{FoundAt, find-found, find-missing, lookup-split, remove-split, set_split}
-
--- the offset that a scan for a name answers
-pub scan-used : (area name : List ℕ) (n used : ℕ) (place : Place) → Scanned.Pairs n used place ≡ named_scan area name
-    → Used area used × (place ≡ find_at area name)
-scan-used area name n used place e =
-    let p = (named-pairs area name n used place e).scanned in
-    (record { pairs = p.pairs; parses = p.is; is = p.long }, p.there)
-
-pub used-inside : {area : List ℕ} {used : ℕ} → Used area used → used + 1 ≤ length area
-used-inside {area} u = omega (arith, u.is, read-room (area-read area u.pairs u.parses))
 
 -- the room for the new bytes, by the tests that the code makes
 module _ (area : List ℕ) (start rest used : ℕ) (new : List ℕ) where
@@ -102,18 +93,27 @@ module _ (before : List Pair) (old : List ℕ) (after : List Pair) (z area : Lis
         (λ i. tail_shifted area (er2 i) (es2 i) (eu2 i)) ∙ pasted-none _ (length (pairs_bytes before))
         ∙ pairs-spliced before old after z area e [] h
 
--- an area without a fault, and what finding a name in it answers
-module _ (area : List ℕ) (used : ℕ) (u : Used area used) (name : List ℕ) where
+-- an area without a fault, and what the scan for a name finds in it
+module _ (area name : List ℕ) (s : Scanned) (e : Ok s ≡ named_scan area name) where
+  abbrev told : PairsOf (parse area) (find_at area name) s
+  told = (named-pairs area name s e).scanned
+
+  abbrev ps : List Pair
+  ps = told.pairs
+
+  pub used-inside : s.used + 1 ≤ length area
+  used-inside = omega (arith, told.long, read-room (area-read area ps told.is))
+
   padding : List ℕ
-  padding = (area-read area u.pairs u.parses).fill
+  padding = (area-read area ps told.is).fill
 
-  bytes : area ≡ pairs_bytes u.pairs ++ 0x00 ∷ padding
+  bytes : area ≡ pairs_bytes ps ++ 0x00 ∷ padding
   unfolding padding
-  bytes = (area-read area u.pairs u.parses).bytes
+  bytes = (area-read area ps told.is).bytes
 
-  module _ (start equals end : ℕ) (h : At start equals end ≡ find_at area name) where
-    there : FoundAt name u.pairs start equals end
-    there = find-found area name u.pairs u.parses start equals end (sym h)
+  module _ (p : Place) (h : s.place ≡ Some p) where
+    there : FoundAt name ps p
+    there = find-found area name ps told.is p (sym told.there ∙ h)
 
     old : List ℕ
     old = pair_bytes (pair_of name there.stored)
@@ -121,7 +121,7 @@ module _ (area : List ℕ) (used : ℕ) (u : Used area used) (name : List ℕ) w
     around : area ≡ pairs_bytes there.before ++ (old ++ (pairs_bytes there.after ++ 0x00 ∷ padding))
     unfolding old pairs_bytes
     around =
-        bytes ∙ ap (λ (ps : List Pair). pairs_bytes ps ++ 0x00 ∷ padding) there.pairs
+        bytes ∙ ap (λ (qs : List Pair). pairs_bytes qs ++ 0x00 ∷ padding) there.pairs
         ∙ ap (λ (l : List ℕ). l ++ 0x00 ∷ padding) (pairs-append there.before (pair_of name there.stored ∷ there.after))
         ∙ append_assoc (pairs_bytes there.before) (old ++ pairs_bytes there.after) (0x00 ∷ padding)
         ∙ ap (λ (l : List ℕ). pairs_bytes there.before ++ l) (append_assoc old (pairs_bytes there.after) (0x00 ∷ padding))
@@ -131,16 +131,16 @@ module _ (area : List ℕ) (used : ℕ) (u : Used area used) (name : List ℕ) w
     old-long =
         omega (arith, length-append name (0x3D ∷ (there.stored ++ 0x00 ∷ [])), length-append there.stored (0x00 ∷ []))
 
-    rest-is : end + 1 ≡ start + length old
+    rest-is : p.end + 1 ≡ p.start + length old
     rest-is = omega (arith, there.equals-is, there.end_is, old-long)
 
-    used-is : used ≡ end + 1 + length (pairs_bytes there.after)
+    used-is : s.used ≡ p.end + 1 + length (pairs_bytes there.after)
     unfolding old pairs_bytes
     used-is =
         omega (
           arith,
-          u.is,
-          ap (λ (ps : List Pair). length (pairs_bytes ps)) there.pairs,
+          told.long,
+          ap (λ (qs : List Pair). length (pairs_bytes qs)) there.pairs,
           ap length (pairs-append there.before (pair_of name there.stored ∷ there.after)),
           length-append (pairs_bytes there.before) (pairs_bytes (pair_of name there.stored ∷ there.after)),
           length-append old (pairs_bytes there.after),
@@ -148,65 +148,49 @@ module _ (area : List ℕ) (used : ℕ) (u : Used area used) (name : List ℕ) w
           rest-is,
         )
 
-    pub found-bounds : (start ≤ end + 1) × (end + 1 ≤ used) × (used + 1 ≤ length area)
-    found-bounds = (omega (arith, rest-is), omega (arith, used-is), used-inside u)
+    pub found-bounds : (p.start ≤ p.end + 1) × (p.end + 1 ≤ s.used) × (s.used + 1 ≤ length area)
+    found-bounds = (omega (arith, rest-is), omega (arith, used-is), used-inside)
 
     pub set_found : (value : List ℕ)
-        → (replace_reply area start (end + 1) used (pair_bytes (canonical_pair name value)) ≡ (call_by (parse area) (Calls.set name value) area).reply)
-        × (replace_area area start (end + 1) used (pair_bytes (canonical_pair name value)) ≡ (call_by (parse area) (Calls.set name value) area).area)
+        → (replace_reply area p.start (p.end + 1) s.used (pair_bytes (canonical_pair name value)) ≡ (call_area (Calls.set name value) area).reply)
+        × (replace_area area p.start (p.end + 1) s.used (pair_bytes (canonical_pair name value)) ≡ (call_area (Calls.set name value) area).area)
     set_found value =
-        let s : set_pair name value u.pairs ≡ there.before ++ canonical_pair name value ∷ there.after =
+        let q : set_pair name value ps ≡ there.before ++ canonical_pair name value ∷ there.after =
         ap (set_pair name value) there.pairs ∙ set_split name there.stored there.after value there.before there.fresh in
-        replaced there.before old there.after (0x00 ∷ padding) area around start (end + 1) used there.start_is rest-is used-is
-        (canonical_pair name value) (Calls.set name value) (call_by (parse area) (Calls.set name value) area)
-        (ap (λ (x : Parse). call_by x (Calls.set name value) area) u.parses
-        ∙ set-makes name value u.pairs _ area s)
+        replaced there.before old there.after (0x00 ∷ padding) area around p.start (p.end + 1) s.used there.start_is rest-is used-is
+        (canonical_pair name value) (Calls.set name value) (call_area (Calls.set name value) area)
+        (call-scanned name (Calls.set_to value) area s e ∙ set-makes name value ps _ area q)
 
-    pub remove-found : (done 0 ≡ (call_by (parse area) (Calls.remove name) area).reply)
-        × (tail_shifted area (end + 1) start used ≡ (call_by (parse area) (Calls.remove name) area).area)
-    unfolding call_pairs
+    pub remove-found : (done 0 ≡ (call_area (Calls.remove name) area).reply)
+        × (tail_shifted area (p.end + 1) p.start s.used ≡ (call_area (Calls.remove name) area).area)
     remove-found =
-        let s : remove_pair name u.pairs ≡ there.before ++ there.after =
+        let r : remove_pair name ps ≡ there.before ++ there.after =
         ap (remove_pair name) there.pairs ∙ remove-split name there.stored there.after there.before there.fresh in
-        let l : lookup name u.pairs ≡ found _ =
+        let l : lookup name ps ≡ found _ =
         ap (lookup name) there.pairs ∙ lookup-split name there.stored there.after there.before there.fresh in
-        let f : call_by (parse area) (Calls.remove name) area ≡ edited (area_bytes (length area) (there.before ++ there.after)) =
-        ap (λ (x : Parse). call_by x (Calls.remove name) area) u.parses ∙ ap (λ (x : Lookup). Calls.remove_by x name u.pairs area) l
-        ∙ ap (λ (qs : List Pair). edited (area_bytes (length area) qs)) s in
+        let f : call_area (Calls.remove name) area ≡ edited (area_bytes (length area) (there.before ++ there.after)) =
+        call-scanned name Calls.removal area s e ∙ Laws.remove-found name ps area l ∙ ap (λ (qs : List Pair). edited (area_bytes (length area) qs)) r in
         let n : length (pairs_bytes (there.before ++ there.after)) ≡ length (pairs_bytes there.before) + length (pairs_bytes there.after) =
         ap length (pairs-append there.before there.after) ∙ length-append (pairs_bytes there.before) (pairs_bytes there.after) in (
           ap (λ (x : Outcome). x.reply) (sym f),
-          removed there.before old there.after (0x00 ∷ padding) area around start (end + 1) used there.start_is rest-is used-is
-              (omega (arith, there.start_is, rest-is, used-is, used-inside u)) ∙ ap (λ (x : Outcome). x.area) (sym f),
+          removed there.before old there.after (0x00 ∷ padding) area around p.start (p.end + 1) s.used there.start_is rest-is used-is
+              (omega (arith, there.start_is, rest-is, used-is, used-inside)) ∙ ap (λ (x : Outcome). x.area) (sym f),
         )
 
-  module _ (h : None ≡ find_at area name) where
-    gone : lookup name u.pairs ≡ missing
-    gone = find-missing area name u.pairs u.parses (sym h)
+  module _ (h : s.place ≡ None) where
+    gone : lookup name ps ≡ missing
+    gone = find-missing area name ps told.is (sym told.there ∙ h)
 
     pub set-added : (value : List ℕ)
-        → (replace_reply area used used used (pair_bytes (canonical_pair name value)) ≡ (call_by (parse area) (Calls.set name value) area).reply)
-        × (replace_area area used used used (pair_bytes (canonical_pair name value)) ≡ (call_by (parse area) (Calls.set name value) area).area)
+        → (replace_reply area s.used s.used s.used (pair_bytes (canonical_pair name value)) ≡ (call_area (Calls.set name value) area).reply)
+        × (replace_area area s.used s.used s.used (pair_bytes (canonical_pair name value)) ≡ (call_area (Calls.set name value) area).area)
     unfolding pairs_bytes
     set-added value =
-        let s : set_pair name value u.pairs ≡ u.pairs ++ canonical_pair name value ∷ [] =
-        set-nowhere name value u.pairs ((lookup-missing-exactly name u.pairs).0 gone) in
-        replaced u.pairs [] [] (0x00 ∷ padding) area bytes used used used u.is (omega arith) (omega arith) (canonical_pair name value)
-        (Calls.set name value) (call_by (parse area) (Calls.set name value) area)
-        (ap (λ (x : Parse). call_by x (Calls.set name value) area) u.parses
-        ∙ set-makes name value u.pairs _ area s)
+        let q : set_pair name value ps ≡ ps ++ canonical_pair name value ∷ [] =
+        set-nowhere name value ps ((lookup-missing-exactly name ps).0 gone) in
+        replaced ps [] [] (0x00 ∷ padding) area bytes s.used s.used s.used told.long (omega arith) (omega arith) (canonical_pair name value)
+        (Calls.set name value) (call_area (Calls.set name value) area)
+        (call-scanned name (Calls.set_to value) area s e ∙ set-makes name value ps _ area q)
 
-    pub remove-missing : (refused NoVariable ≡ (call_by (parse area) (Calls.remove name) area).reply)
-        × (area ≡ (call_by (parse area) (Calls.remove name) area).area)
-    unfolding call_pairs
-    remove-missing =
-        let f : call_by (parse area) (Calls.remove name) area ≡ refuse NoVariable (Calls.remove name) area =
-        ap (λ (x : Parse). call_by x (Calls.remove name) area) u.parses ∙ ap (λ (x : Lookup). Calls.remove_by x name u.pairs area) gone in
-        (ap (λ (x : Outcome). x.reply) (sym f), ap (λ (x : Outcome). x.area) (sym f))
-
--- what an edit answers, and the area afterwards
-abbrev pub Told : Outcome → Calls.Reply → List ℕ → Type 0
-Told o reply area = (reply ≡ o.reply) × (area ≡ o.area)
-
-pub told-as : {o p : Outcome} {reply : Calls.Reply} {area : List ℕ} → o ≡ p → Told o reply area → Told p reply area
-told-as e t = (t.0 ∙ ap (λ (x : Outcome). x.reply) e, t.1 ∙ ap (λ (x : Outcome). x.area) e)
+    pub remove-missing : (refused NoVariable ≡ (call_area (Calls.remove name) area).reply) × (area ≡ (call_area (Calls.remove name) area).area)
+    remove-missing = edit-refused (Calls.remove name) (call-scanned name Calls.removal area s e ∙ Laws.remove-missing name ps area gone)

@@ -1,15 +1,8 @@
 -- For the code of a set and of a removal: what it answers and leaves, by offsets of the area.
-use Rattle.std.specs.Prelude.{ℕ, ◌+◌, ◌-◌, ◌≡◌, cond, List, ◌++◌, length, take, drop, replicate, ltb}
+use Rattle.std.specs.Prelude.{ℕ, ◌+◌, ◌-◌, cond, List, ◌++◌, length, take, drop, replicate, ltb}
 use Rattle.lists.specs.Pasted.{pasted}
 use Rattle.errors.specs.declared.Error.TheVariants.{NoRoom}
-use Rattle.pairs.specs.Area.{Pair, pairs_bytes, parse, parsed}
 use Rattle.variables.specs.Calls.{Reply, done, refused}
-
--- an area that parses, and the offset of its ending 0x00
-pub record Used (area : List ℕ) (used : ℕ) : Type 0 where
-  pub pairs : List Pair
-  pub parses : parse area ≡ parsed pairs
-  pub is : used ≡ length (pairs_bytes pairs)
 
 -- the bytes from `rest` up to `used` stand at `to`, what was before `to` stays, and 0x00 follows to the area's end
 unfoldable pub tail_shifted : List ℕ → ℕ → ℕ → ℕ → List ℕ

@@ -4,16 +4,13 @@
 ghost use Rattle.std.specs.Prelude.{◌≡◌, [], ◌∷◌, ◌++◌, ◌+◌, ◌-◌, ◌≤◌, length};
 ghost use Rattle.lists.specs.Pasted.{pasted};
 ghost use Rattle.values.specs.Value.{encode};
-ghost use Rattle.pairs.specs.Area.{pair_bytes, parse};
-ghost use Rattle.pairs.specs.Helpers.{find_at};
+ghost use Rattle.pairs.specs.Area.{pair_bytes};
 ghost use Rattle.variables.specs.Edits.{canonical_pair};
 ghost use Rattle.variables.specs.Views.{edit_reply};
 ghost use Rattle.variables.specs.Calls as Calls;
-ghost use Rattle.edits.specs.Helpers.{Used, tail_shifted, replace_reply, replace_area};
+ghost use Rattle.edits.specs.Helpers.{tail_shifted, replace_reply, replace_area};
 
 use errors::Error;
-use pairs::{Place, Scanned};
-use variables::Edited;
 
 // Moves the bytes from `rest` up to `used` to `to`, and zeroes the area after them.
 fn shift_tail(area: &mut [u8], rest: usize, to: usize, used: usize)
@@ -26,34 +23,18 @@ fn shift_tail(area: &mut [u8], rest: usize, to: usize, used: usize)
     lists::fill(&mut area[end..], 0);
 }
 
-// Writes a name and its `=` at an offset.
-fn put_name(area: &mut [u8], at: usize, name: &[u8])
-    requires { at + length name.now + 1 ≤ length area.old }
-    ensures { area.new ≡ pasted area.old at (name.now ++ 0x3D ∷ []) }
+// Writes a pair in canonical form over a part that is just as long.
+fn put_pair(part: &mut [u8], name: &[u8], value: &[u8])
+    requires { length part.old ≡ length (pair_bytes (canonical_pair name.now value.now)) }
+    ensures { part.new ≡ pair_bytes (canonical_pair name.now value.now) }
 {
-    let equals = at + name.len();
-    lists::copy(name, &mut area[at..equals]);
-    area[equals] = b'=';
-}
-
-// Writes the canonical form of a value, of `size` bytes, and its 0x00 at an offset.
-fn put_value(area: &mut [u8], at: usize, value: &[u8], size: usize)
-    requires { (size ≡ length (encode value.now)) × (at + size + 1 ≤ length area.old) }
-    ensures { area.new ≡ pasted area.old at (encode value.now ++ 0x00 ∷ []) }
-{
-    let end = at + size;
-    encoding::encode(value, &mut area[at..end]);
-    area[end] = 0;
-}
-
-// Writes a pair in canonical form at an offset; `size` is the length of its value's canonical form.
-fn put_pair(area: &mut [u8], at: usize, name: &[u8], value: &[u8], size: usize)
-    requires { (size ≡ length (encode value.now)) × (at + length name.now + size + 2 ≤ length area.old) }
-    ensures { area.new ≡ pasted area.old at (pair_bytes (canonical_pair name.now value.now)) }
-{
-    put_name(area, at, name);
-    let start = at + name.len() + 1;
-    put_value(area, start, value, size);
+    let equals = name.len();
+    let start = equals + 1;
+    let end = part.len() - 1;
+    part[..equals].copy_from_slice(name);
+    part[equals] = b'=';
+    encoding::encode(value, &mut part[start..end]);
+    part[end] = 0;
 }
 
 // Puts a canonical pair in the place of the bytes from `start` up to `rest`; the pairs end at `used`.
@@ -64,7 +45,7 @@ fn replace(
     used: usize,
     name: &[u8],
     value: &[u8],
-) -> Edited
+) -> Result<(), Error>
     requires { (start ≤ rest) × (rest ≤ used) × (used + 1 ≤ length area.old) }
     ensures result_value { edit_reply result ≡ replace_reply area.old start rest used (pair_bytes (canonical_pair name.now value.now)) }
     ensures area_after { area.new ≡ replace_area area.old start rest used (pair_bytes (canonical_pair name.now value.now)) }
@@ -72,80 +53,37 @@ fn replace(
     let size = encoding::encoded_len(value);
     let room = area.len() - 1 - (used - rest) - start;
     if room < size {
-        return Edited::Refused(Error::NoRoom); // the value alone exceeds the room
+        return Err(Error::NoRoom); // the value alone exceeds the room
     }
     if room - size < name.len() + 2 {
-        return Edited::Refused(Error::NoRoom);
+        return Err(Error::NoRoom);
     }
     let to = start + name.len() + size + 2;
     shift_tail(area, rest, to, used);
-    put_pair(area, start, name, value, size);
-    Edited::Done
-}
-
-// Sets a variable in an area without a fault, whose pairs end at `used`; its pair stands at the place.
-fn set_pair(area: &mut [u8], name: &[u8], value: &[u8], used: usize, place: Place) -> Edited
-    requires { Used area.old used × (place ≡ find_at area.old name.now) }
-    ensures result_value { edit_reply result
-        ≡ (Calls.call_by (parse area.old) (Calls.set name.now value.now) area.old).reply }
-    ensures area_after { area.new
-        ≡ (Calls.call_by (parse area.old) (Calls.set name.now value.now) area.old).area }
-{
-    match place {
-        Place::At {
-            start,
-            equals: _,
-            end,
-        } => replace(area, start, end + 1, used, name, value),
-        Place::None => replace(area, used, used, used, name, value),
-    }
+    put_pair(&mut area[start..to], name, value);
+    Ok(())
 }
 
 // Sets a variable: its pair is replaced where it stands, or added after the last.
-pub fn set(area: &mut [u8], name: &[u8], value: &[u8]) -> Edited
+pub fn set(area: &mut [u8], name: &[u8], value: &[u8]) -> Result<(), Error>
     ensures result_value { edit_reply result ≡ (Calls.call_area (Calls.set name.now value.now) area.old).reply }
     ensures area_after { area.new ≡ (Calls.call_area (Calls.set name.now value.now) area.old).area }
 {
-    match variables::scan_named(area, name) {
-        Scanned::Refused(e) => Edited::Refused(e),
-        Scanned::Pairs {
-            count: _,
-            used,
-            place,
-        } => set_pair(area, name, value, used, place),
-    }
-}
-
-// Removes the variable at a place from an area without a fault, whose pairs end at `used`.
-fn remove_pair(area: &mut [u8], name: &[u8], used: usize, place: Place) -> Edited
-    requires { Used area.old used × (place ≡ find_at area.old name.now) }
-    ensures result_value { edit_reply result ≡ (Calls.call_by (parse area.old) (Calls.remove name.now) area.old).reply }
-    ensures area_after { area.new ≡ (Calls.call_by (parse area.old) (Calls.remove name.now) area.old).area }
-{
-    match place {
-        Place::At {
-            start,
-            equals: _,
-            end,
-        } => {
-            shift_tail(area, end + 1, start, used);
-            Edited::Done
-        }
-        Place::None => Edited::Refused(Error::NoVariable),
+    let scanned = variables::scan_named(area, name)?;
+    let used = scanned.used;
+    match scanned.place {
+        Some(pair) => replace(area, pair.start, pair.end + 1, used, name, value),
+        None => replace(area, used, used, used, name, value),
     }
 }
 
 // Removes a variable: its pair is taken out, and the pairs after it close up.
-pub fn remove(area: &mut [u8], name: &[u8]) -> Edited
+pub fn remove(area: &mut [u8], name: &[u8]) -> Result<(), Error>
     ensures result_value { edit_reply result ≡ (Calls.call_area (Calls.remove name.now) area.old).reply }
     ensures area_after { area.new ≡ (Calls.call_area (Calls.remove name.now) area.old).area }
 {
-    match variables::scan_named(area, name) {
-        Scanned::Refused(e) => Edited::Refused(e),
-        Scanned::Pairs {
-            count: _,
-            used,
-            place,
-        } => remove_pair(area, name, used, place),
-    }
+    let scanned = variables::scan_named(area, name)?;
+    let pair = scanned.place.ok_or(Error::NoVariable)?;
+    shift_tail(area, pair.end + 1, pair.start, scanned.used);
+    Ok(())
 }

@@ -14,11 +14,10 @@ use Rattle.lists.proofs.Tests.{split}
 use Rattle.lists.specs.Helpers.{until_either}
 use Rattle.lists.proofs.FindLaws.{until-short, until-before, until-next}
 use Rattle.lists.proofs.PastedLaws.{set-pasted, set_after}
-use Rattle.lists.proofs.Grown.{Grown, grown-none, grown-as, grown-same, grown-piece, grown-all, grown-end}
+use Rattle.lists.proofs.Grown.{Grown, grown-none, grown-as, grown-same, grown-piece, grown-all, grown-end, grown-left}
 use Rattle.values.specs.Value.{mark, full_escapes, rest_escape, run_bytes, escaped, encode}
 use Rattle.encoding.specs.Helpers.{leading}
 use Rattle.values.specs.Rules.{Begins}
-use Rattle.lists.proofs.Grown.{grown-left}
 use Rattle.values.proofs.EncodeLaws.{rest-none, rest_some, length-run-bytes, length-encode}
 use Rattle.values.proofs.DecodeTurns.{none-left}
 use Rattle.values.proofs.CanonicalLaws.{encode-longest, encode-piece, encode-empty}

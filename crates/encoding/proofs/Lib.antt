@@ -1,3 +1,4 @@
+pub mod UntilLaws
 pub mod RecodeLaws
 pub mod PlainLaws
 pub mod SpellingTurns

@@ -13,7 +13,8 @@ use Rattle.lists.proofs.Tests.{split}
 use Rattle.lists.specs.Pasted.{pasted}
 use Rattle.lists.proofs.ListLaws.{drop-next}
 use Rattle.lists.proofs.PastedLaws.{pasted-more}
-use Rattle.lists.proofs.FindLaws.{until_none, until-here, until-next, until-short, until_skip}
+use Rattle.lists.proofs.FindLaws.{until-next, until-short}
+use Rattle.encoding.proofs.UntilLaws.{until_none, until-here, until_skip}
 use Rattle.values.specs.Value.{escaped}
 
 -- in the first k bytes

@@ -18,8 +18,7 @@ use Rattle.lists.proofs.Tests.{split}
 use Rattle.lists.proofs.Grown.{Grown, grown-none, grown-same, grown-after, grown-as, grown-piece, grown-all, grown-end}
 use Rattle.values.specs.Value.{run_byte, run, decode, spelled, mark, run_bytes, escaped, encode_from, encode}
 use Rattle.values.specs.Helpers.{part, recoded}
-use Rattle.values.proofs.DecodeLaws.{decode-none, decode-piece, decode-escape, spelled-piece, plain-spelled}
-use Rattle.values.proofs.DecodeLaws.{escape-spelled, cut-spelled, PlainSpelled, EscapeSpelled}
+use Rattle.values.proofs.DecodeLaws.{decode-none, decode-piece, decode-escape, spelled-piece, plain-spelled, escape-spelled, cut-spelled, PlainSpelled, EscapeSpelled}
 use Rattle.values.proofs.EncodeLaws.{length-run-bytes, encode-none, run-same, run-other}
 use Rattle.values.proofs.CanonicalLaws.{encode-after}
 use Rattle.values.proofs.PartLaws.{part-next, part_none, part_cut}

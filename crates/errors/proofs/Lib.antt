@@ -1,1 +1,3 @@
 pub mod ErrorLaws
+pub mod Passed
+pub mod AnswerLaws

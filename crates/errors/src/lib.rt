@@ -3,28 +3,25 @@
 
 ghost use Rattle.std.specs.Prelude.{◌≡◌};
 ghost use Rattle.errors.specs.Errors.{header_code, area_code, code_of, offset_of};
+ghost use Rattle.errors.specs.Answer.{Shows};
 
 // The first rule that a header breaks.
 #[derive(Clone, Copy)]
 pub enum HeaderFault {
     // 2: the length field is zero.
-    ZeroLength,
+    ZeroLength = 2,
     // 3: the partition runs past the image's end.
-    PastEnd,
+    PastEnd = 3,
     // 4: the stored and the computed checksum differ.
-    Checksum,
+    Checksum = 4,
 }
 
 impl HeaderFault {
-    // The code that a caller sees.
+    // The code that a caller sees: a number, since C callers and the table of codes have numbers.
     pub fn code(self) -> u32
         ensures { result ≡ header_code self }
     {
-        match self {
-            HeaderFault::ZeroLength => 2,
-            HeaderFault::PastEnd => 3,
-            HeaderFault::Checksum => 4,
-        }
+        self as u32
     }
 }
 
@@ -32,26 +29,21 @@ impl HeaderFault {
 #[derive(Clone, Copy)]
 pub enum AreaFault {
     // 7: the area ends inside a pair, or where a pair or the end should begin.
-    AreaEnd,
+    AreaEnd = 7,
     // 8: a stored name breaks the name rule.
-    StoredName,
+    StoredName = 8,
     // 9: 0xFF is followed by 0x00 or 0x80.
-    Escape,
+    Escape = 9,
     // 10: a name stands a second time.
-    Repeated,
+    Repeated = 10,
 }
 
 impl AreaFault {
-    // The code that a caller sees.
+    // The code that a caller sees: a number, since C callers and the table of codes have numbers.
     pub fn code(self) -> u32
         ensures { result ≡ area_code self }
     {
-        match self {
-            AreaFault::AreaEnd => 7,
-            AreaFault::StoredName => 8,
-            AreaFault::Escape => 9,
-            AreaFault::Repeated => 10,
-        }
+        self as u32
     }
 }
 
@@ -79,20 +71,20 @@ pub enum Error {
 }
 
 impl Error {
-    // The code that a caller sees.
+    // The code that a caller sees: a number, since C callers and the table of codes have numbers.
     pub fn code(self) -> u32
         ensures { result ≡ code_of self }
     {
         match self {
             Error::ImageLength => 1,
-            Error::BadHeader { fault, at: _ } => fault.code(),
+            Error::BadHeader { fault, .. } => fault.code(),
             Error::NoPartition => 6,
-            Error::BadArea { fault, at: _ } => fault.code(),
-            Error::BadName { at: _ } => 11,
+            Error::BadArea { fault, .. } => fault.code(),
+            Error::BadName { .. } => 11,
             Error::NoVariable => 12,
             Error::NoRoom => 13,
             Error::ShortBuffer => 14,
-            Error::RepeatedPartition { at: _ } => 20,
+            Error::RepeatedPartition { .. } => 20,
         }
     }
 
@@ -102,14 +94,41 @@ impl Error {
     {
         match self {
             Error::ImageLength => 0,
-            Error::BadHeader { fault: _, at } => at,
+            Error::BadHeader { at, .. } => at,
             Error::NoPartition => 0,
-            Error::BadArea { fault: _, at } => at,
+            Error::BadArea { at, .. } => at,
             Error::BadName { at } => at,
             Error::NoVariable => 0,
             Error::NoRoom => 0,
             Error::ShortBuffer => 0,
             Error::RepeatedPartition { at } => at,
+        }
+    }
+}
+
+// What a caller sees of a result: code 0 and the value, or the error's code and offset and the type's default for a value.
+#[derive(Clone, Copy)]
+pub struct Answer<T> {
+    pub code: u32,
+    pub offset: usize,
+    pub value: T,
+}
+
+impl<T: Default + Drop> From<Result<T, Error>> for Answer<T> {
+    ghost from_gives = { Shows T.is_default };
+
+    fn from(answered: Result<T, Error>) -> Self {
+        match answered {
+            Ok(value) => Answer {
+                code: 0,
+                offset: 0,
+                value,
+            },
+            Err(e) => Answer {
+                code: e.code(),
+                offset: e.offset(),
+                value: T::default(),
+            },
         }
     }
 }

@@ -88,7 +88,7 @@ unfolding closed_form
 folds-closed zero h = refl
 folds-closed (suc m) h = omega arith
 
-sum_bound : (bs : List ℕ) → AllBytes bs → sum bs ≤ 255 * length bs
+pub sum_bound : (bs : List ℕ) → AllBytes bs → sum bs ≤ 255 * length bs
 unfolding sum
 sum_bound [] a = omega arith
 sum_bound (b ∷ bs) a = omega (arith, a.0, sum_bound bs a.1)

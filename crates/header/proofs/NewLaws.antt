@@ -1,6 +1,6 @@
 -- A header that is made: allowed exactly for the lengths that a header can hold, read back from its 16 bytes, and sound where it fits.
 use Prim.Native.Nat.{ℕ, ◌+◌, ◌*◌, ◌/◌, ◌%◌, ◌≤◌, ◌<◌}
-use mathlib.Core.Path.{◌≡◌, ap, refl, sym, ◌∙◌}
+use mathlib.Core.Path.{◌≡◌, ap, sym, ◌∙◌}
 use mathlib.Core.Logic.{◌↔◌}
 use mathlib.Core.Bool.{true}
 use mathlib.Core.List.{List, ◌∷◌}
@@ -12,7 +12,7 @@ use Rattle.lists.specs.Bytes.{AllBytes}
 use Rattle.lists.proofs.Tests.{and-true}
 use Rattle.header.specs.declared.Blocks.{Blocks}
 use Rattle.header.specs.Checksum.{sum, sumcheck, closed_form}
-use Rattle.header.specs.Header.{byte_at, name_at, header_at, header_bytes, sealed, new_header}
+use Rattle.header.specs.Header.{byte_at, name_at, header_at, header_bytes, sealed, fits_header}
 use Rattle.header.specs.Rules.{blocks_at, checksum_at, Sound}
 use Rattle.header.proofs.SumLaws.{header-bytes}
 use Rattle.header.proofs.ChecksumLaws.{closed-form}
@@ -23,27 +23,23 @@ module _ (signature : ℕ) (blocks : Blocks) (name : List ℕ) where
   over = signature ∷ blocks.0 / 256 % 256 ∷ blocks.0 % 256 ∷ name
 
   -- ALLOWED exactly for a length from 1 to 65,535
-  pub allowed-exactly : ((new_header signature blocks name).allowed ≡ true) ↔ ((1 ≤ blocks.0) × (blocks.0 ≤ 65535))
-  unfolding new_header
+  pub allowed-exactly : (fits_header blocks ≡ true) ↔ ((1 ≤ blocks.0) × (blocks.0 ≤ 65535))
+  unfolding fits_header
   allowed-exactly = (
     λ e. let t = and-true (leb 1 blocks.0) (leb blocks.0 65535) e in (leb-true _ _ t.0, leb-true _ _ t.1),
     λ h. rw (le-leb _ _ h.0, le-leb _ _ h.1),
   )
 
-  new-sealed : (new_header signature blocks name).header ≡ sealed signature blocks name
-  unfolding new_header
-  new-sealed = refl
-
   -- the 16 bytes of such a header stand at an offset of an image
-  module _ (allowed : (new_header signature blocks name).allowed ≡ true) (twelve : len name ≡ 12) (image : List ℕ) (at : ℕ)
-      (stands : take 16 (drop at image) ≡ header_bytes (new_header signature blocks name).header)
+  module _ (allowed : fits_header blocks ≡ true) (twelve : len name ≡ 12) (image : List ℕ) (at : ℕ)
+      (stands : take 16 (drop at image) ≡ header_bytes (sealed signature blocks name))
     where
       length-range : (1 ≤ blocks.0) × (blocks.0 ≤ 65535)
       length-range = allowed-exactly.0 allowed
 
       whole : at + 16 ≤ len image
       whole =
-          let e : len (take 16 (drop at image)) ≡ 16 = ap len (stands ∙ ap header_bytes new-sealed) ∙ omega arith in
+          let e : len (take 16 (drop at image)) ≡ 16 = ap len (stands) ∙ omega arith in
           omega (arith, length-take 16 (drop at image), length-drop at image)
 
       -- each field is read as it was written
@@ -56,23 +52,21 @@ module _ (signature : ℕ) (blocks : Blocks) (name : List ℕ) where
 
       fields : Fields
       fields =
-          let e = sym (header-bytes image at whole) ∙ stands ∙ ap header_bytes new-sealed in
+          let e = sym (header-bytes image at whole) ∙ stands in
           record { signed = cc (e); sum_is = cc (e); high = cc (e); low = cc (e); named = cc (e) }
 
       blocks_is : byte_at image at 2 * 256 + byte_at image at 3 ≡ blocks.0
       blocks_is = omega (arith, fields.high, fields.low, length-range)
 
       -- IT READS BACK
-      pub new-read : header_at image at ≡ (new_header signature blocks name).header
+      pub new-read : header_at image at ≡ sealed signature blocks name
       unfolding header_at
-      new-read =
-          (λ i. record {
-            signature = fields.signed i;
-            checksum = fields.sum_is i;
-            length = record { 0 = blocks_is i };
-            name = fields.named i;
-          })
-          ∙ sym new-sealed
+      new-read = λ i. record {
+        signature = fields.signed i;
+        checksum = fields.sum_is i;
+        length = record { 0 = blocks_is i };
+        name = fields.named i;
+      }
 
       -- WITH THE FIELDS that it was made of
       pub new-fields : ((header_at image at).signature ≡ signature) × ((header_at image at).length ≡ blocks) × ((header_at image at).name ≡ name)

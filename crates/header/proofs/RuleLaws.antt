@@ -14,13 +14,12 @@ use Rattle.errors.specs.declared.HeaderFault.{HeaderFault}
 use Rattle.errors.specs.declared.HeaderFault.TheVariants.{ZeroLength, PastEnd, Checksum}
 use Rattle.errors.specs.declared.Error.TheVariants.{BadHeader}
 use Rattle.errors.specs.Errors.{header_code}
-use Rattle.header.specs.declared.ValidityAnswer.{ValidityAnswer}
-use Rattle.header.specs.declared.Validity.{Validity}
-use Rattle.header.specs.declared.Validity.TheVariants.{Valid, Invalid}
+use Rattle.errors.specs.declared.Answer.{Answer}
+use Rattle.std.specs.Prelude.{⊤, Ok, Err}
 use Rattle.header.specs.Checksum.{sum, sumcheck, fold}
-use Rattle.header.specs.Header.{byte_at, name_at, header_at, bytes_of, covered_bytes, first_broken, validity_of, validity_at, validity_answer}
+use Rattle.header.specs.Header.{byte_at, name_at, header_at, bytes_of, covered_bytes, first_broken, validity_of, validity_at, Validity, validity_answer}
 use Rattle.header.specs.Rules.{blocks_at, checksum_at, Sound, Breaks, two, three, four, HeaderRow, is-sound, is-two, is-three, is-four}
-use Rattle.header.proofs.SumLaws.{name-sum}
+use Rattle.header.proofs.SumLaws.{name-part}
 use Rattle.header.proofs.ChecksumLaws.{closed-form, closed-zeros, sum-covered}
 use Rattle.header.proofs.ValidityLaws.{zero-length, past_end, checksum-differs, no-rule-broken, cut_off, zero_test, zero-test-idle}
 
@@ -28,6 +27,10 @@ module _ (image : List ℕ) (at : ℕ) where
   pub blocks-read : (header_at image at).length.0 ≡ blocks_at image at
   unfolding header_at blocks_at
   blocks-read = refl
+
+  pub length-read : ◌≡◌ {A = Blocks} (record { 0 = byte_at image at 2 * 256 + byte_at image at 3 }) (header_at image at).length
+  unfolding header_at
+  length-read = refl
 
   pub checksum-read : (header_at image at).checksum ≡ byte_at image at 1
   unfolding header_at
@@ -98,14 +101,27 @@ module _ (image : List ℕ) (at : ℕ) where
     unfolding checksum_at
     sum-read = ap sumcheck covered-read ∙ closed-form _ (byte 0, (byte 2, (byte 3, name-bytes)))
 
-    -- the same of what the code has read of a whole header
+    -- the same of what is read of a whole header
     pub checksum-whole : at + 16 ≤ length image → (n s r : ℕ) (l : Blocks) → n ≡ sum (take (at + 16 - (at + 4)) (drop (at + 4) image))
         → s ≡ (header_at image at).signature → l ≡ (header_at image at).length
         → r ≡ fold (fold (n + s + l.0 / 256 % 256 + l.0 % 256)) → r ≡ sumcheck (covered_bytes (header_at image at))
     unfolding header_at
     checksum-whole h n s r l en es el er =
-        sum-covered (header_at image at) (byte 0) name-bytes name-length n s r (en ∙ name-sum image at h) es
+        sum-covered (header_at image at) (byte 0) name-bytes name-length n s r (en ∙ ap sum (name-part image at h)) es
         (er ∙ (λ i. fold (fold (n + s + (el i).0 / 256 % 256 + (el i).0 % 256))))
+
+    -- the same of the sum of all its bytes, less the stored checksum
+    pub checksum-less : (n r : ℕ)
+        → n + byte_at image at 1 ≡ byte_at image at 0 + (byte_at image at 1 + (byte_at image at 2 + (byte_at image at 3 + sum (name_at image at))))
+        → r ≡ fold (fold n) → r ≡ sumcheck (covered_bytes (header_at image at))
+    unfolding header_at
+    checksum-less n r en er =
+        let b2 = byte 2 in
+        let b3 = byte 3 in
+        let e : n ≡ sum (name_at image at) + byte_at image at 0 + (byte_at image at 2 * 256 + byte_at image at 3) / 256 % 256
+        + (byte_at image at 2 * 256 + byte_at image at 3) % 256 = omega arith in
+        sum-covered (header_at image at) (byte 0) name-bytes name-length (sum (name_at image at)) (byte_at image at 0) r refl refl
+        (er ∙ ap (λ (m : ℕ). fold (fold m)) e)
 
     -- A TEST MORE, for a checksum of zero, changes nothing at any offset of any image, whatever it would answer
     pub zero-test-idle-at : (v : Validity) → zero_test (validity_at image at) (checksum_at image at) v ≡ validity_at image at
@@ -123,7 +139,7 @@ module _ (image : List ℕ) (at : ℕ) where
         fits : (bytes_of (header_at image at).length).0 ≤ length image - at
         fits = let p : (header_at image at).length.0 * 16 ≤ length image - at = omega (arith, blocks-read) in p
 
-    pub breaks-invalid : {f : HeaderFault} → Breaks image at f → validity_at image at ≡ Invalid (BadHeader f at)
+    pub breaks-invalid : {f : HeaderFault} → Breaks image at f → validity_at image at ≡ Err (BadHeader f at)
     unfolding validity_at validity_of
     breaks-invalid (two z) =
         let h = header_at image at in
@@ -137,7 +153,7 @@ module _ (image : List ℕ) (at : ℕ) where
         sym (checksum-differs h.length h.checksum (sumcheck (covered_bytes h)) at (length image - at) (nonzero z) (bytes_of h.length) refl (fits z f)
         (λ e. a (sym checksum-read ∙ e ∙ sum-read)))
 
-    pub sound-valid : Sound image at → validity_at image at ≡ Valid
+    pub sound-valid : Sound image at → validity_at image at ≡ Ok tt
     unfolding validity_at validity_of
     sound-valid s =
         let h = header_at image at in
@@ -146,8 +162,8 @@ module _ (image : List ℕ) (at : ℕ) where
 
     -- what the rules say of the header at an offset
     data Judged : Validity → Type 0 where
-      sound : Sound image at → Judged Valid
-      faulty : {f : HeaderFault} → Breaks image at f → Judged (Invalid (BadHeader f at))
+      sound : Sound image at → Judged (Ok tt)
+      faulty : {f : HeaderFault} → Breaks image at f → Judged (Err (BadHeader f at))
 
     judged : Judged (validity_at image at)
     judged =
@@ -167,36 +183,36 @@ module _ (image : List ℕ) (at : ℕ) where
             rw (sound-valid s) (sound s)
 
     -- no rule is broken exactly when the header is sound
-    pub valid-exactly : (validity_at image at ≡ Valid) ↔ Sound image at
+    pub valid-exactly : (validity_at image at ≡ Ok tt) ↔ Sound image at
     valid-exactly = (go (validity_at image at) judged, sound-valid)
       where
-        go : (v : Validity) → Judged v → v ≡ Valid → Sound image at
-        go Valid (sound s) e = s
-        go (Invalid x) (faulty b) e = clash (cc)
+        go : (v : Validity) → Judged v → v ≡ Ok tt → Sound image at
+        go (Ok _) (sound s) e = s
+        go (Err x) (faulty b) e = clash (cc)
 
     -- and a rule is the first one broken exactly when it is, and the earlier ones hold
-    pub invalid-exactly : (f : HeaderFault) → (validity_at image at ≡ Invalid (BadHeader f at)) ↔ Breaks image at f
+    pub invalid-exactly : (f : HeaderFault) → (validity_at image at ≡ Err (BadHeader f at)) ↔ Breaks image at f
     invalid-exactly f = (go (validity_at image at) judged, breaks-invalid)
       where
-        go : (v : Validity) → Judged v → v ≡ Invalid (BadHeader f at) → Breaks image at f
-        go Valid (sound s) q = clash (cc)
-        go (Invalid x) (faulty {f = g} b) q = let p : g ≡ f = cc in rw p at b
+        go : (v : Validity) → Judged v → v ≡ Err (BadHeader f at) → Breaks image at f
+        go (Ok _) (sound s) q = clash (cc)
+        go (Err x) (faulty {f = g} b) q = let p : g ≡ f = cc in rw p at b
 
-    answer-row : (f : HeaderFault) → Breaks image at f → HeaderRow image at (record { code = header_code f; offset = at })
+    answer-row : (f : HeaderFault) → Breaks image at f → HeaderRow image at (record { code = header_code f; offset = at; value = tt })
     answer-row ZeroLength b = is-two b
     answer-row PastEnd b = is-three b
     answer-row Checksum b = is-four b
 
-    answers-validity : {s : ValidityAnswer} → HeaderRow image at s → validity_answer (validity_at image at) ≡ s
+    answers-validity : {s : Answer ⊤} → HeaderRow image at s → validity_answer (validity_at image at) ≡ s
     answers-validity (is-sound x) = ap validity_answer (sound-valid x)
     answers-validity (is-two b) = ap validity_answer (breaks-invalid b)
     answers-validity (is-three b) = ap validity_answer (breaks-invalid b)
     answers-validity (is-four b) = ap validity_answer (breaks-invalid b)
 
     -- THE CALLER'S VIEW of a header is its row
-    pub validity-exactly : (s : ValidityAnswer) → (validity_answer (validity_at image at) ≡ s) ↔ HeaderRow image at s
+    pub validity-exactly : (s : Answer ⊤) → (validity_answer (validity_at image at) ≡ s) ↔ HeaderRow image at s
     validity-exactly s = (λ e. subst (HeaderRow image at) e (row (validity_at image at) judged), answers-validity)
       where
         row : (v : Validity) → Judged v → HeaderRow image at (validity_answer v)
-        row Valid (sound x) = is-sound x
-        row (Invalid e) (faulty {f = f} b) = answer-row f b
+        row (Ok _) (sound x) = is-sound x
+        row (Err e) (faulty {f = f} b) = answer-row f b

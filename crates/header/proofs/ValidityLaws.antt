@@ -1,36 +1,34 @@
--- What `validity_of` and `new_header` answer, by the tests that the code makes.
+-- What `validity_of` answers, by the tests that the code makes.
 use Prim.Native.Nat.{ℕ, ◌-◌, ◌*◌, ◌≤◌, ◌<◌}
 use mathlib.Core.Path.{◌≡◌, subst, refl, sym, ◌∙◌}
-use mathlib.Core.Bool.{Bool, true, false, not, ◌&&◌, cond}
+use mathlib.Core.Bool.{Bool, true, false, not, cond}
 use mathlib.Core.Logic.{◌≢◌}
 use mathlib.Core.List.{List}
 use native.Mathlib.Omega.{arith}
 use native.Mathlib.Decide.{ℕ_discrete}
 use lib.ListN.{length as len}
-use lib.Dec.{leb, ltb, eqb}
-use borrow.Author.Tests.{eq-eqb, ne_eqb, lt-ltb, le-ltb, le-leb, lt-leb, eqb-false, ltb-false}
+use lib.Dec.{ltb, eqb}
+use borrow.Author.Tests.{eq-eqb, ne_eqb, lt-ltb, le-ltb, eqb-false, ltb-false}
 use Rattle.lists.specs.Bytes.{AllBytes}
 use Rattle.lists.proofs.Tests.{clash}
 use Rattle.header.specs.declared.Blocks.{Blocks}
 use Rattle.header.specs.declared.Bytes.{Bytes}
 use Rattle.header.specs.declared.Header.{Header}
-use Rattle.header.specs.declared.NewHeader.{NewHeader}
-use Rattle.header.specs.declared.Validity.{Validity}
-use Rattle.header.specs.declared.Validity.TheVariants.{Valid, Invalid}
+use Rattle.std.specs.Prelude.{Ok, Err}
 use Rattle.errors.specs.declared.Error.{Error}
 use Rattle.errors.specs.declared.HeaderFault.{HeaderFault}
 use Rattle.errors.specs.declared.HeaderFault.TheVariants.{ZeroLength, PastEnd, Checksum}
 use Rattle.errors.specs.declared.Error.TheVariants.{BadHeader}
 use Rattle.header.specs.Checksum.{sumcheck}
-use Rattle.header.specs.Header.{bytes_of, header_at, covered_bytes, new_header, first_broken, validity_of, validity_at}
+use Rattle.header.specs.Header.{bytes_of, header_at, covered_bytes, first_broken, Validity, validity_of, validity_at}
 use Rattle.header.proofs.ChecksumLaws.{header-nonzero}
 
 module _ (blocks : Blocks) (stored computed at room : ℕ) where
-  pub zero-length : blocks.0 ≡ 0 → Invalid (BadHeader ZeroLength at) ≡ first_broken blocks stored computed at room
+  pub zero-length : blocks.0 ≡ 0 → Err (BadHeader ZeroLength at) ≡ first_broken blocks stored computed at room
   zero-length z = rw (eq-eqb _ _ z)
 
   module _ (z : blocks.0 ≡ 0 → ⊥) (b : Bytes) (eb : b ≡ bytes_of blocks) where
-    pub past_end : room < b.0 → Invalid (BadHeader PastEnd at) ≡ first_broken blocks stored computed at room
+    pub past_end : room < b.0 → Err (BadHeader PastEnd at) ≡ first_broken blocks stored computed at room
     past_end p =
         let q : room < (bytes_of blocks).0 = subst (λ (x : Bytes). room < x.0) eb p in
         rw (ne_eqb _ _ z, lt-ltb _ _ q)
@@ -39,10 +37,10 @@ module _ (blocks : Blocks) (stored computed at room : ℕ) where
       fits : (bytes_of blocks).0 ≤ room
       fits = subst (λ (x : Bytes). x.0 ≤ room) eb p
 
-      pub checksum-differs : (stored ≡ computed → ⊥) → Invalid (BadHeader Checksum at) ≡ first_broken blocks stored computed at room
+      pub checksum-differs : (stored ≡ computed → ⊥) → Err (BadHeader Checksum at) ≡ first_broken blocks stored computed at room
       checksum-differs d = rw (ne_eqb _ _ z, le-ltb _ _ fits, ne_eqb _ _ d)
 
-      pub no-rule-broken : stored ≡ computed → Valid ≡ first_broken blocks stored computed at room
+      pub no-rule-broken : stored ≡ computed → Ok tt ≡ first_broken blocks stored computed at room
       no-rule-broken a = rw (ne_eqb _ _ z, le-ltb _ _ fits, eq-eqb _ _ a)
 
 -- the rules of a header, by its checksum that was computed
@@ -61,44 +59,16 @@ cut_off blocks s c t d at room h = go (ℕ_discrete blocks.0 0)
         let q : room < blocks.0 * 16 = omega arith in
         sym (past_end blocks s c at room z (bytes_of blocks) refl q) ∙ past_end blocks t d at room z (bytes_of blocks) refl q
 
--- a header made of its fields, where its checksum and the test of its length are right
-module _ (signature : ℕ) (blocks : Blocks) (name : List ℕ) (s : ℕ)
-    (es : s ≡ sumcheck (covered_bytes (record { signature = signature; checksum = 0; length = blocks; name = name }))) where
-  made : (b : Bool) → b ≡ (leb 1 blocks.0 && leb blocks.0 65535)
-      → ◌≡◌ {A = NewHeader} (record { header = record { signature = signature; checksum = s; length = blocks; name = name }; allowed = b })
-      (new_header signature blocks name)
-  unfolding new_header
-  made b eb = λ i. record { header = record { signature = signature; checksum = es i; length = blocks; name = name }; allowed = eb i }
-
-  pub new-zero : blocks.0 ≡ 0
-      → ◌≡◌ {A = NewHeader} (record { header = record { signature = signature; checksum = s; length = blocks; name = name }; allowed = false })
-      (new_header signature blocks name)
-  new-zero z = let l : blocks.0 < 1 = omega arith in made false (rw (lt-leb _ _ l))
-
-  module _ (z : blocks.0 ≡ 0 → ⊥) where
-    least : 1 ≤ blocks.0
-    least = omega arith
-
-    pub new-over : 65535 < blocks.0
-        → ◌≡◌ {A = NewHeader} (record { header = record { signature = signature; checksum = s; length = blocks; name = name }; allowed = false })
-        (new_header signature blocks name)
-    new-over l = made false (rw (le-leb _ _ least, lt-leb _ _ l))
-
-    pub new-allowed : blocks.0 ≤ 65535
-        → ◌≡◌ {A = NewHeader} (record { header = record { signature = signature; checksum = s; length = blocks; name = name }; allowed = true })
-        (new_header signature blocks name)
-    new-allowed l = made true (rw (le-leb _ _ least, le-leb _ _ l))
-
 -- an invalid header is refused for a fault of its own, at its own offset
 fault-by : (a b c : Bool) (at : ℕ) (e : Error)
-    → cond a (Invalid (BadHeader ZeroLength at)) (cond b (Invalid (BadHeader PastEnd at)) (cond c (Invalid (BadHeader Checksum at)) Valid)) ≡ Invalid e
+    → ◌≡◌ {A = Validity} (cond a (Err (BadHeader ZeroLength at)) (cond b (Err (BadHeader PastEnd at)) (cond c (Err (BadHeader Checksum at)) (Ok tt)))) (Err e)
     → (f : HeaderFault) × (e ≡ BadHeader f at)
 fault-by true b c at e q = (ZeroLength, cc)
 fault-by false true c at e q = (PastEnd, cc)
 fault-by false false true at e q = (Checksum, cc)
 fault-by false false false at e q = clash (cc)
 
-pub invalid-here : (image : List ℕ) (at : ℕ) (e : Error) → validity_at image at ≡ Invalid e → (f : HeaderFault) × (e ≡ BadHeader f at)
+pub invalid-here : (image : List ℕ) (at : ℕ) (e : Error) → validity_at image at ≡ Err e → (f : HeaderFault) × (e ≡ BadHeader f at)
 unfolding validity_at validity_of
 invalid-here image at e q =
     let h : Header = header_at image at in
@@ -106,13 +76,13 @@ invalid-here image at e q =
     at e q
 
 -- the first two tests of a header that breaks no rule
-valid-tests : (a b : Bool) (w x : Error) (v : Validity) → cond a (Invalid w) (cond b (Invalid x) v) ≡ Valid
+valid-tests : (a b : Bool) (w x : Error) (v : Validity) → cond a (Err w) (cond b (Err x) v) ≡ Ok tt
     → (a ≡ false) × (b ≡ false)
 valid-tests true b w x v e = clash (cc)
 valid-tests false true w x v e = clash (cc)
 valid-tests false false w x v e = (refl, refl)
 
-module _ (h : Header) (at room : ℕ) (e : validity_of h at room ≡ Valid) where
+module _ (h : Header) (at room : ℕ) (e : validity_of h at room ≡ Ok tt) where
   tests : (eqb h.length.0 0 ≡ false) × (ltb room (bytes_of h.length).0 ≡ false)
   unfolding validity_of
   tests = valid-tests _ _ (BadHeader ZeroLength at) (BadHeader PastEnd at) _ e
@@ -124,7 +94,7 @@ module _ (h : Header) (at room : ℕ) (e : validity_of h at room ≡ Valid) wher
   fitting = ltb-false _ _ tests.1
 
 -- the same of the header at an offset of an image
-module _ (image : List ℕ) (at : ℕ) (e : validity_at image at ≡ Valid) where
+module _ (image : List ℕ) (at : ℕ) (e : validity_at image at ≡ Ok tt) where
   pub valid-nonzero : (header_at image at).length.0 ≢ 0
   unfolding validity_at
   valid-nonzero = nonzero (header_at image at) at (len image - at) e
@@ -135,8 +105,8 @@ module _ (image : List ℕ) (at : ℕ) (e : validity_at image at ≡ Valid) wher
 
 -- an answer after a test more behind the others, which would answer v where the computed checksum is zero
 abbrev pub zero_test : Validity → ℕ → Validity → Validity
-zero_test Valid computed v = cond (eqb computed 0) v Valid
-zero_test (Invalid e) computed v = Invalid e
+zero_test (Ok _) computed v = cond (eqb computed 0) v (Ok tt)
+zero_test (Err e) computed v = Err e
 
 -- THAT TEST CHANGES NOTHING for a header of at most 65,535 blocks, whatever it would answer
 pub zero-test-idle : (h : Header) → h.signature < 256 → AllBytes h.name → h.length.0 ≤ 65535 → (at room : ℕ) (v : Validity)
@@ -144,5 +114,5 @@ pub zero-test-idle : (h : Header) → h.signature < 256 → AllBytes h.name → 
 zero-test-idle h l a m at room v = go (validity_of h at room) refl
   where
     go : (w : Validity) → validity_of h at room ≡ w → zero_test w (sumcheck (covered_bytes h)) v ≡ w
-    go Valid e = rw (ne_eqb _ _ (header-nonzero h l a (nonzero h at room e) m))
-    go (Invalid x) e = refl
+    go (Ok _) e = rw (ne_eqb _ _ (header-nonzero h l a (nonzero h at room e) m))
+    go (Err x) e = refl

@@ -1,13 +1,11 @@
 -- The header of a partition: 16 bytes of signature, checksum, length and name.
-use Rattle.std.specs.Prelude.{ℕ, ◌+◌, ◌-◌, ◌*◌, ◌/◌, ◌%◌, not, ◌&&◌, cond, List, [], ◌∷◌, length, get_or, leb, ltb, eqb}
+use Rattle.std.specs.Prelude.{ℕ, ◌+◌, ◌-◌, ◌*◌, ◌/◌, ◌%◌, not, ◌&&◌, cond, List, [], ◌∷◌, length, get_or, leb, ltb, eqb, Bool, ⊤, Result, Ok, Err}
 use Rattle.header.specs.declared.Blocks.{Blocks}
 use Rattle.header.specs.declared.Bytes.{Bytes}
 use Rattle.header.specs.declared.Header.{Header}
-use Rattle.header.specs.declared.NewHeader.{NewHeader}
-use Rattle.errors.specs.Errors.{code_of, offset_of}
-use Rattle.header.specs.declared.ValidityAnswer.{ValidityAnswer}
-use Rattle.header.specs.declared.Validity.{Validity}
-use Rattle.header.specs.declared.Validity.TheVariants.{Valid, Invalid}
+use Rattle.errors.specs.declared.Error.{Error}
+use Rattle.errors.specs.declared.Answer.{Answer}
+use Rattle.errors.specs.Answer.{answer_of}
 use Rattle.errors.specs.declared.HeaderFault.TheVariants.{ZeroLength, PastEnd, Checksum}
 use Rattle.errors.specs.declared.Error.TheVariants.{BadHeader}
 use Rattle.header.specs.Checksum.{sumcheck}
@@ -55,18 +53,21 @@ sealed signature blocks name =
       name = name;
     }
 
--- that header, and whether its length is one from 1 to 65,535
-unfoldable pub new_header : ℕ → Blocks → List ℕ → NewHeader
-new_header signature blocks name =
-    record { header = sealed signature blocks name; allowed = leb 1 blocks.0 && leb blocks.0 65535 }
+-- whether a header can hold a length: one from 1 to 65,535
+unfoldable pub fits_header : Blocks → Bool
+fits_header blocks = leb 1 blocks.0 && leb blocks.0 65535
+
+-- what the rules say of a header: nothing, or the first rule that it breaks
+abbrev pub Validity : Type 0
+Validity = Result ⊤ Error
 
 -- the first rule broken by a length, a stored and a computed checksum, at an offset with so many bytes of the image left
 abbrev pub first_broken : Blocks → ℕ → ℕ → ℕ → ℕ → Validity
 first_broken blocks stored computed at room =
-    cond (eqb blocks.0 0) (Invalid (BadHeader ZeroLength at))
-    (cond (ltb room (bytes_of blocks).0) (Invalid (BadHeader PastEnd at))
-    (cond (not (eqb stored computed)) (Invalid (BadHeader Checksum at))
-    Valid))
+    cond (eqb blocks.0 0) (Err (BadHeader ZeroLength at))
+    (cond (ltb room (bytes_of blocks).0) (Err (BadHeader PastEnd at))
+    (cond (not (eqb stored computed)) (Err (BadHeader Checksum at))
+    (Ok tt)))
 
 -- the first rule that a header breaks, where it stands there
 unfoldable pub validity_of : Header → ℕ → ℕ → Validity
@@ -77,6 +78,5 @@ unfoldable pub validity_at : List ℕ → ℕ → Validity
 validity_at image at = validity_of (header_at image at) at (length image - at)
 
 -- the code and the offset that a caller sees of it
-abbrev pub validity_answer : Validity → ValidityAnswer
-validity_answer Valid = record { code = 0; offset = 0 }
-validity_answer (Invalid e) = record { code = code_of e; offset = offset_of e }
+abbrev pub validity_answer : Validity → Answer ⊤
+validity_answer checked = answer_of tt checked

@@ -1,8 +1,8 @@
 -- The rules of a header, by the bytes of the image; nothing here computes an answer.
-use Rattle.std.specs.Prelude.{ℕ, ◌+◌, ◌*◌, ◌≤◌, ◌<◌, ◌≡◌, ◌≢◌, List, ◌∷◌, length}
+use Rattle.std.specs.Prelude.{ℕ, ◌+◌, ◌*◌, ◌≤◌, ◌<◌, ◌≡◌, ◌≢◌, List, ◌∷◌, length, ⊤}
 use Rattle.errors.specs.declared.HeaderFault.{HeaderFault}
 use Rattle.errors.specs.declared.HeaderFault.TheVariants.{ZeroLength, PastEnd, Checksum}
-use Rattle.header.specs.declared.ValidityAnswer.{ValidityAnswer}
+use Rattle.errors.specs.declared.Answer.{Answer}
 use Rattle.header.specs.Checksum.{sum, closed_form}
 use Rattle.header.specs.Header.{byte_at, name_at}
 
@@ -29,8 +29,8 @@ pub data Breaks (image : List ℕ) (at : ℕ) : HeaderFault → Type 0 where
       → byte_at image at 1 ≢ checksum_at image at → Breaks image at Checksum
 
 -- what a caller sees of a header: 0 for a sound one, else the code of the first rule that it breaks, and its offset
-pub data HeaderRow (image : List ℕ) (at : ℕ) : ValidityAnswer → Type 0 where
-  is-sound : Sound image at → HeaderRow image at (record { code = 0; offset = 0 })
-  is-two : Breaks image at ZeroLength → HeaderRow image at (record { code = 2; offset = at })
-  is-three : Breaks image at PastEnd → HeaderRow image at (record { code = 3; offset = at })
-  is-four : Breaks image at Checksum → HeaderRow image at (record { code = 4; offset = at })
+pub data HeaderRow (image : List ℕ) (at : ℕ) : Answer ⊤ → Type 0 where
+  is-sound : Sound image at → HeaderRow image at (record { code = 0; offset = 0; value = tt })
+  is-two : Breaks image at ZeroLength → HeaderRow image at (record { code = 2; offset = at; value = tt })
+  is-three : Breaks image at PastEnd → HeaderRow image at (record { code = 3; offset = at; value = tt })
+  is-four : Breaks image at Checksum → HeaderRow image at (record { code = 4; offset = at; value = tt })

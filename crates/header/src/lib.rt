@@ -1,15 +1,16 @@
 // The header of a partition, its checksum and its rules.
 #![tactic(auto)]
 
-ghost use Rattle.std.specs.Prelude.{◌≡◌, ◌+◌, ◌/◌, ◌%◌, ◌≤◌, ◌<◌, length as len};
+ghost use Rattle.std.specs.Prelude.{◌≡◌, ℕ, ◌+◌, ◌*◌, ◌/◌, ◌%◌, ◌≤◌, ◌<◌, length as len, take, drop, get_or, sum, MatchOption};
 ghost use Rattle.lists.specs.Bytes.{AllBytes};
-ghost use Rattle.header.specs.Checksum.{sum, sumcheck, fold};
-ghost use Rattle.header.specs.Header.{bytes_of, byte_at, name_at, header_at, covered_bytes, new_header, first_broken, validity_of, validity_at, validity_answer};
+ghost use Rattle.header.specs.Checksum.{sumcheck, fold};
+ghost use Rattle.header.specs.Header.{bytes_of, byte_at, header_at, covered_bytes, fits_header, sealed, first_broken, validity_of, validity_at, validity_answer};
 
-use errors::{Error, HeaderFault};
+use errors::{Answer, Error, HeaderFault};
+use std::array;
 
 // A length in blocks, as a header holds it.
-#[derive(Clone, Copy)]
+#[derive(Clone, Copy, Default)]
 pub struct Blocks(pub u32);
 
 // A length in bytes.
@@ -23,6 +24,21 @@ impl Blocks {
     {
         Bytes(self.0 as usize * Header::BLOCK)
     }
+
+    // The length of these two bytes, the high one first.
+    fn of_bytes(high: u8, low: u8) -> Self
+        ensures { result.0 ≡ high * 256 + low }
+    {
+        Blocks(u32::from(high) * 256 + u32::from(low))
+    }
+
+    // Whether a header can hold the length: its two bytes, and no length of zero.
+    #[tactic(auto, unfolding(crate::specs::Header::fits_header))]
+    pub fn fits_header(self) -> bool
+        ensures { result ≡ fits_header self }
+    {
+        1 <= self.0 && self.0 <= Header::MAX_LENGTH
+    }
 }
 
 // The 16 bytes at the start of a partition.
@@ -32,43 +48,6 @@ pub struct Header {
     pub checksum: u8,
     pub length: Blocks,
     pub name: [u8; 12],
-}
-
-// A header that was made of its fields, and whether its length is one that a header can hold.
-#[derive(Clone, Copy)]
-pub struct NewHeader {
-    pub header: Header,
-    pub allowed: bool,
-}
-
-// What the rules say of a header.
-#[derive(Clone, Copy)]
-pub enum Validity {
-    // It breaks no rule.
-    Valid,
-    // The first rule that it breaks.
-    Invalid(Error),
-}
-
-// The caller's view of `Validity`: 0, or the error's code and offset.
-#[derive(Clone, Copy)]
-pub struct ValidityAnswer {
-    pub code: u32,
-    pub offset: usize,
-}
-
-impl Validity {
-    pub fn answer(self) -> ValidityAnswer
-        ensures { result ≡ validity_answer self }
-    {
-        match self {
-            Validity::Valid => ValidityAnswer { code: 0, offset: 0 },
-            Validity::Invalid(e) => ValidityAnswer {
-                code: e.code(),
-                offset: e.offset(),
-            },
-        }
-    }
 }
 
 impl Header {
@@ -82,8 +61,8 @@ impl Header {
     pub const MAX_LENGTH: u32 = 65535;
 
     // The header of these fields, with the checksum that is right for them.
-    pub fn new(signature: u8, length: Blocks, name: [u8; 12]) -> NewHeader
-        ensures { result ≡ new_header signature length name }
+    pub fn new(signature: u8, length: Blocks, name: [u8; 12]) -> Self
+        ensures { result ≡ sealed signature length name }
     {
         let blank = Header {
             signature,
@@ -91,29 +70,9 @@ impl Header {
             length,
             name,
         };
-        let checksum = blank.computed_checksum();
-        let header = Header {
-            signature,
-            checksum,
-            length,
-            name,
-        };
-        let blocks = length.0;
-        if blocks == 0 {
-            return NewHeader {
-                header,
-                allowed: false,
-            };
-        }
-        if Header::MAX_LENGTH < blocks {
-            return NewHeader {
-                header,
-                allowed: false,
-            };
-        }
-        NewHeader {
-            header,
-            allowed: true,
+        Header {
+            checksum: blank.computed_checksum(),
+            ..blank
         }
     }
 
@@ -121,11 +80,21 @@ impl Header {
     pub fn read(image: &[u8], at: usize) -> Self
         ensures { result ≡ header_at image.now at }
     {
+        match whole_header(image, at) {
+            Some(bytes) => Header::of_bytes(bytes),
+            None => Header::of_bytes(&cut_off(image, at)),
+        }
+    }
+
+    // The header of its 16 bytes.
+    fn of_bytes(bytes: &[u8; 16]) -> Self
+        ensures { result ≡ header_at bytes.now 0 }
+    {
         Header {
-            signature: Header::signature_at(image, at),
-            checksum: byte(image, at, 1),
-            length: Header::length_at(image, at),
-            name: name_at(image, at),
+            signature: bytes[0],
+            checksum: bytes[1],
+            length: Blocks::of_bytes(bytes[2], bytes[3]),
+            name: *bytes.last_chunk().unwrap(),
         }
     }
 
@@ -140,38 +109,40 @@ impl Header {
     pub fn length_at(image: &[u8], at: usize) -> Blocks
         ensures { result ≡ (header_at image.now at).length }
     {
-        let high = byte(image, at, 2) as u32;
-        let low = byte(image, at, 3) as u32;
-        Blocks(high * 256 + low)
+        Blocks::of_bytes(byte(image, at, 2), byte(image, at, 3))
     }
 
     // The first rule that the header at an offset breaks; one that is cut off breaks 2 or 3, whatever its checksum.
-    pub fn check_at(image: &[u8], at: usize) -> Validity
+    pub fn check_at(image: &[u8], at: usize) -> Result<(), Error>
         ensures { result ≡ validity_at image.now at }
     {
-        let n = image.len();
-        if n <= at {
-            return first_broken(Header::length_at(image, at), 0, 0, at, 0);
+        let room = image.len().saturating_sub(at);
+        match whole_header(image, at) {
+            Some(bytes) => {
+                let length = Blocks::of_bytes(bytes[2], bytes[3]);
+                let computed = checksum_of_whole(bytes);
+                first_broken(length, bytes[1], computed, at, room)
+            }
+            None => first_broken(Header::length_at(image, at), 0, 0, at, room),
         }
-        let room = n - at;
-        if room < Header::SIZE {
-            return first_broken(Header::length_at(image, at), 0, 0, at, room);
-        }
-        let length = Header::length_at(image, at);
-        let computed = checksum_at(image, at);
-        first_broken(length, image[at + 1], computed, at, room)
+    }
+
+    // What a caller sees of the header at an offset: code 0, or that of the first rule that it breaks, and its offset.
+    pub fn answer_at(image: &[u8], at: usize) -> Answer<()>
+        ensures { result ≡ validity_answer (validity_at image.now at) }
+    {
+        Header::check_at(image, at).into()
     }
 
     // The checksum of the 15 bytes of signature, length and name.
     pub fn computed_checksum(self) -> u8
         ensures { result ≡ sumcheck (covered_bytes self) }
     {
-        let name = self.name;
-        checksum_of(self.signature, self.length, sum_name(&name))
+        checksum_of(self.signature, self.length, sum_bytes(&self.name))
     }
 
     // The first rule that the header breaks, where it stands at an offset with so many bytes of the image left.
-    pub fn check(self, at: usize, room: usize) -> Validity
+    pub fn check(self, at: usize, room: usize) -> Result<(), Error>
         ensures { result ≡ validity_of self at room }
     {
         first_broken(
@@ -185,120 +156,65 @@ impl Header {
 }
 
 // The first broken rule in the order 2, 3, 4.
-fn first_broken(blocks: Blocks, stored: u8, computed: u8, at: usize, room: usize) -> Validity
+fn first_broken(
+    blocks: Blocks,
+    stored: u8,
+    computed: u8,
+    at: usize,
+    room: usize,
+) -> Result<(), Error>
     ensures { result ≡ first_broken blocks stored computed at room }
 {
     // Compared before the other tests, since the compiler then adds the covered bytes as a vector.
     let differs = stored != computed;
     if blocks.0 == 0 {
         let fault = HeaderFault::ZeroLength;
-        return Validity::Invalid(Error::BadHeader { fault, at });
+        return Err(Error::BadHeader { fault, at });
     }
     let bytes = blocks.bytes();
     if room < bytes.0 {
         let fault = HeaderFault::PastEnd;
-        return Validity::Invalid(Error::BadHeader { fault, at });
+        return Err(Error::BadHeader { fault, at });
     }
     if differs {
         let fault = HeaderFault::Checksum;
-        return Validity::Invalid(Error::BadHeader { fault, at });
+        return Err(Error::BadHeader { fault, at });
     }
-    Validity::Valid
+    Ok(())
 }
 
 // The byte k places after an offset, 0 past the image's end.
 fn byte(image: &[u8], at: usize, k: usize) -> u8
     ensures { result ≡ byte_at image.now at k }
 {
-    let n = image.len();
-    if at < n {
-        if k < n - at {
-            return image[at + k];
-        }
+    match image.get(at..) {
+        Some(rest) => rest.get(k).copied().unwrap_or(0),
+        None => 0,
     }
-    0
 }
 
-// The name in the header at an offset; that of a whole header is read without a test for each byte.
-fn name_at(image: &[u8], at: usize) -> [u8; 12]
-    ensures { result ≡ name_at image.now at }
+// The 16 bytes of a whole header, none where it is cut off.
+fn whole_header(image: &[u8], at: usize) -> Option<&[u8; 16]>
+    ensures { MatchOption result (len image.now < at + 16) (λ bytes. (at + 16 ≤ len image.now) × (bytes.now ≡ take 16 (drop at image.now))) }
 {
-    let n = image.len();
-    if at < n {
-        if Header::SIZE <= n - at {
-            return whole_name(image, at);
-        }
-    }
-    cut_name(image, at)
+    image.get(at..)?.first_chunk()
 }
 
-// The name in a whole header.
-fn whole_name(image: &[u8], at: usize) -> [u8; 12]
-    requires { at + 16 ≤ len image.now }
-    ensures { result ≡ name_at image.now at }
+// The 16 bytes of a header that may be cut off; out of line, so that those of a whole one stay together.
+#[inline(never)]
+fn cut_off(image: &[u8], at: usize) -> [u8; 16]
+    ensures { (k : ℕ) → k < 16 → get_or result k 0 ≡ byte_at image.now at k }
 {
-    [
-        image[at + 4],
-        image[at + 5],
-        image[at + 6],
-        image[at + 7],
-        image[at + 8],
-        image[at + 9],
-        image[at + 10],
-        image[at + 11],
-        image[at + 12],
-        image[at + 13],
-        image[at + 14],
-        image[at + 15],
-    ]
-}
-
-// The name in a header that may be cut off.
-fn cut_name(image: &[u8], at: usize) -> [u8; 12]
-    ensures { result ≡ name_at image.now at }
-{
-    [
-        byte(image, at, 4),
-        byte(image, at, 5),
-        byte(image, at, 6),
-        byte(image, at, 7),
-        byte(image, at, 8),
-        byte(image, at, 9),
-        byte(image, at, 10),
-        byte(image, at, 11),
-        byte(image, at, 12),
-        byte(image, at, 13),
-        byte(image, at, 14),
-        byte(image, at, 15),
-    ]
-}
-
-// A byte as a term of a sum.
-fn wide(b: u8) -> u32
-    ensures { result ≡ b }
-{
-    b as u32
+    array::from_fn(|k| byte(image, at, k))
 }
 
 // The plain sum of at most 16 bytes.
 fn sum_bytes(bytes: &[u8]) -> u32
     requires { len bytes.now ≤ 16 }
-    ensures { (result ≡ sum bytes.now) × (result ≤ 4080) × AllBytes bytes.now }
+    ensures value { result ≡ sum bytes.now }
+    ensures bytes { AllBytes bytes.now }
 {
-    let mut total: u32 = 0;
-    let mut i = 0;
-    while i < bytes.len() {
-        total += wide(bytes[i]);
-        i += 1;
-    }
-    total
-}
-
-// The plain sum of a name.
-fn sum_name(name: &[u8; 12]) -> u32
-    ensures { (result ≡ sum name.now) × (result ≤ 4080) × AllBytes name.now × (len name.now ≡ 12) }
-{
-    sum_bytes(name)
+    bytes.iter().map(|b| u32::from(*b)).sum()
 }
 
 // What stands above the low byte of a number, its carries, is added to that byte.
@@ -324,17 +240,12 @@ fn checksum_of(signature: u8, length: Blocks, name: u32) -> u8
     ensures { result ≡ fold (fold (name + signature + length.0 / 256 % 256 + length.0 % 256)) }
 {
     let blocks = length.0;
-    fold_twice(name + wide(signature) + blocks / 256 % 256 + blocks % 256)
+    fold_twice(name + u32::from(signature) + blocks / 256 % 256 + blocks % 256)
 }
 
-// The checksum that is right for a whole header at an offset.
-fn checksum_at(image: &[u8], at: usize) -> u8
-    requires { at + 16 ≤ len image.now }
-    ensures { result ≡ sumcheck (covered_bytes (header_at image.now at)) }
+// The checksum that is right for a whole header: of all its bytes but the stored checksum.
+fn checksum_of_whole(bytes: &[u8; 16]) -> u8
+    ensures { result ≡ sumcheck (covered_bytes (header_at bytes.now 0)) }
 {
-    let start = at + Header::NAME_OFFSET;
-    let end = at + Header::SIZE;
-    let name = sum_bytes(&image[start..end]);
-    let length = Header::length_at(image, at);
-    checksum_of(Header::signature_at(image, at), length, name)
+    fold_twice(sum_bytes(bytes) - u32::from(bytes[1]))
 }

@@ -2,6 +2,7 @@ pub mod WordLaws
 pub mod DecimalLaws
 pub mod FieldLaws
 pub mod PieceLaws
+pub mod WriterLaws
 pub mod LinesLaws
 pub mod TextLaws
 pub mod RuleLaws

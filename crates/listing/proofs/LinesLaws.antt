@@ -6,46 +6,44 @@ use native.Mathlib.Nat.{zero-add}
 use native.Mathlib.Omega.{arith}
 use lib.ListN.{length, length-append}
 use Rattle.lists.proofs.Tests.{clash}
-use Rattle.lists.proofs.Grown.{Grown, grown-none, grown-as, grown-piece, grown-same, grown-all, grown-end}
 use Rattle.errors.specs.declared.Error.{Error}
 use Rattle.partitions.specs.declared.Partition.{Partition}
-use Rattle.partitions.specs.declared.Cursor.{Cursor}
-use Rattle.partitions.specs.declared.Step.TheVariants.{Next, End, Broken as Breaks}
-use Rattle.partitions.specs.declared.Checked.TheVariants.{Accepted, Refused}
+use Rattle.partitions.specs.declared.Step.{Step}
 use Rattle.partitions.specs.Walk.{step_at, Walk, covered, broken, first}
 use Rattle.partitions.specs.Find.{check_of}
 use Rattle.partitions.proofs.WalkLaws.{rest, rest-next, rest_end, rest-broken, on_walk, loop-next, loop-end, loop-broken}
 use Rattle.partitions.proofs.LoopLaws.{Goes, next-goes, check-broken, accepted-rest, covered-rest}
-use Rattle.listing.specs.declared.Measured.{Measured}
-use Rattle.listing.specs.declared.Measured.TheVariants.{Lines, Broken}
+use Rattle.std.specs.Prelude.{Ok, Err, Some, None}
 use Rattle.listing.specs.Text.{line, lines, blocks_sum}
-use Rattle.listing.specs.Helpers.{Put, measured_by, measured_of, lines_by, lines_of, Covered}
+use Rattle.listing.specs.Helpers.{HasRoom, Wrote, Measured, measured_by, measured_of, lines_by, lines_of, Covered}
+use Rattle.listing.specs.declared.Writer.{Writer}
 use Rattle.listing.proofs.WordLaws.{line-within}
+use Rattle.listing.proofs.WriterLaws.{Writing, writing-start, writing-room, writing-next, writing-as, writing-end}
 
-pub goes-within : (image : List ℕ) (at : ℕ) (p : Partition) (c : Cursor) → length image ≤ 65_536 → Goes image at p c → length (line image p) ≤ 28
-goes-within image at p c h g = line-within image p (omega (arith, g.here, g.past, g.inside)) (omega (arith, g.past, g.inside))
+pub goes-within : (image : List ℕ) (at : ℕ) (s : Step) → length image ≤ 65_536 → Goes image at s → length (line image s.here) ≤ 28
+goes-within image at s h g = line-within image s.here (omega (arith, g.here, g.past, g.inside)) (omega (arith, g.past, g.inside))
 
-pub measure-refused : (image : List ℕ) (e : Error) → check_of image ≡ Refused e → Broken e ≡ measured_of image
+pub measure-refused : (image : List ℕ) (e : Error) → check_of image ≡ Err e → Err e ≡ measured_of image
 unfolding measured_of measured_by
 measure-refused image e q = ap (measured_by image) (sym (check-broken image e q))
 
 -- what the partitions that are left add to bytes and blocks
 unfoldable pub added : List ℕ → ℕ → ℕ → List Partition → Measured
-added image bytes blocks ps = Lines (bytes + length (lines image ps)) (blocks + blocks_sum ps)
+added image bytes blocks ps = Ok (record { bytes = bytes + length (lines image ps); blocks = blocks + blocks_sum ps })
 
 -- bytes and blocks are those of the partitions before the offset, and the rest of the walk makes the answer of them
 pub record Measuring (image : List ℕ) (at bytes blocks : ℕ) : Type 0 where
   pub few : 4 * bytes ≤ 7 * at
   pub fewer : 16 * blocks ≤ at
   pub inside : at ≤ length image
-  pub rests : on_walk (added image bytes blocks) Broken (rest image at) ≡ measured_of image
+  pub rests : on_walk (added image bytes blocks) Err (rest image at) ≡ measured_of image
 
-added_none : (image : List ℕ) (w : Walk) → on_walk (added image 0 0) Broken w ≡ measured_by image w
+added_none : (image : List ℕ) (w : Walk) → on_walk (added image 0 0) Err w ≡ measured_by image w
 unfolding added measured_by
 added_none image (covered ps) = rw (zero-add (length (lines image ps)), zero-add (blocks_sum ps))
 added_none image (broken e) = refl
 
-pub measure-start : (image : List ℕ) (n : ℕ) → check_of image ≡ Accepted n → Measuring image 0 0 0
+pub measure-start : (image : List ℕ) (n : ℕ) → check_of image ≡ Ok n → Measuring image 0 0 0
 unfolding measured_of
 measure-start image n q =
     record {
@@ -63,92 +61,77 @@ module _ (image : List ℕ) (at bytes blocks : ℕ) (k : Measuring image at byte
       let a : bytes + length (line image p ++ lines image ps) ≡ bytes + n + length (lines image ps) =
       omega (arith, length-append (line image p) (lines image ps)) in
       let b : blocks + (p.blocks.0 + blocks_sum ps) ≡ blocks + p.blocks.0 + blocks_sum ps = omega arith in
-      λ i. Lines (a i) (b i)
+      λ i. Ok (record { bytes = a i; blocks = b i })
 
-  pub measure-next : length image ≤ 65_536 → (p : Partition) (c : Cursor) → step_at image at ≡ Next p c → (n : ℕ) → n ≡ length (line image p)
-      → Measuring image c.at (bytes + n) (blocks + p.blocks.0)
-  measure-next h p c e n f =
-      let g = next-goes image at p c e in
+  pub measure-next : length image ≤ 65_536 → (s : Step) → step_at image at ≡ Ok (Some s) → (n : ℕ) → n ≡ length (line image s.here)
+      → Measuring image s.next.at (bytes + n) (blocks + s.here.blocks.0)
+  measure-next h s e n f =
+      let g = next-goes image at s e in
       record {
-        few = omega (arith, k.few, goes-within image at p c h g, g.some, g.past);
+        few = omega (arith, k.few, goes-within image at s h g, g.some, g.past);
         fewer = omega (arith, k.fewer, g.past);
         inside = g.inside;
-        rests = loop-next image at (added image bytes blocks) Broken _ k.rests p c e (added image (bytes + n) (blocks + p.blocks.0)) (added-line p n f);
+        rests = loop-next image at (added image bytes blocks) Err _ k.rests s e (added image (bytes + n) (blocks + s.here.blocks.0)) (added-line s.here n f);
       }
 
-  pub measure-end : step_at image at ≡ End → Lines bytes blocks ≡ measured_of image
+  pub measure-end : step_at image at ≡ Ok None → Ok (record { bytes = bytes; blocks = blocks }) ≡ measured_of image
   unfolding added lines blocks_sum
   measure-end e =
       let a : bytes ≡ bytes + 0 = omega arith in
       let b : blocks ≡ blocks + 0 = omega arith in
-      (λ i. Lines (a i) (b i)) ∙ loop-end image at (added image bytes blocks) Broken _ k.rests e
+      (λ i. Ok (record { bytes = a i; blocks = b i })) ∙ loop-end image at (added image bytes blocks) Err _ k.rests e
 
-  pub measure-broken : (x : Error) → step_at image at ≡ Breaks x → Broken x ≡ measured_of image
-  measure-broken x e = loop-broken image at (added image bytes blocks) Broken _ k.rests x e
+  pub measure-broken : (x : Error) → step_at image at ≡ Err x → Err x ≡ measured_of image
+  measure-broken x e = loop-broken image at (added image bytes blocks) Err _ k.rests x e
 
--- the lines before the offset cur are written, up to o; those of the partitions that are left are to come
-pub record Writing (image d : List ℕ) (start cur o : ℕ) (b : List ℕ) : Type 0 where
+-- the lines before the offset cur are written; those of the partitions that are left are to come
+pub record WritingLines (image : List ℕ) (u : Writer) (cur : ℕ) (v : Writer) : Type 0 where
   pub left : List Partition
   pub so : rest image cur ≡ covered left
-  pub grown : Grown (lines_of image) d start o (lines image left) b
+  pub writing : Writing u (lines_of image) (lines image left) v
 
-pub write-start : (image d : List ℕ) (start : ℕ) → Covered image → start ≤ length d → Writing image d start 0 start d
+pub write-start : (image : List ℕ) (u : Writer) → Covered image → HasRoom u (length (lines_of image)) → WritingLines image u 0 u
 unfolding lines_of lines_by
-write-start image d start k h =
+write-start image u k h =
     record {
       left = k.all;
       so = covered-rest image k.all k.so;
-      grown = grown-as (grown-none (lines_of image) d start h) (ap (lines_by image) k.so);
+      writing = writing-as (writing-start u (lines_of image) h) (ap (lines_by image) k.so);
     }
 
-module _ {image d : List ℕ} {start cur o : ℕ} {b : List ℕ} (s : Writing image d start cur o b) where
+module _ {image : List ℕ} {u : Writer} {cur : ℕ} {v : Writer} (s : WritingLines image u cur v) where
   -- none of them is broken
-  pub write-broken {ℓ} : {A : Type ℓ} (x : Error) → step_at image cur ≡ Breaks x → A
+  pub write-broken {ℓ} : {A : Type ℓ} (x : Error) → step_at image cur ≡ Err x → A
   write-broken x e = clash (cc (rest-broken image cur x e, s.so))
 
   -- the partition of the step is the first that is left
-  pub record Split (p : Partition) (c : Cursor) : Type 0 where
+  pub record Split (t : Step) : Type 0 where
     pub after : List Partition
-    pub so-after : rest image c.at ≡ covered after
-    pub first-left : s.left ≡ p ∷ after
+    pub so-after : rest image t.next.at ≡ covered after
+    pub first-left : lines image s.left ≡ line image t.here ++ lines image after
 
-  split-left : (p : Partition) (c : Cursor) → step_at image cur ≡ Next p c → Split p c
-  split-left p c e = go (rest image c.at) refl (sym s.so ∙ rest-next image cur p c e)
+  split-left : (t : Step) → step_at image cur ≡ Ok (Some t) → Split t
+  unfolding lines
+  split-left t e = go (rest image t.next.at) refl (sym s.so ∙ rest-next image cur t e)
     where
-      go : (w : Walk) → rest image c.at ≡ w → covered s.left ≡ first p w → Split p c
-      go (covered qs) f q = record { after = qs; so-after = f; first-left = cc }
+      go : (w : Walk) → rest image t.next.at ≡ w → covered s.left ≡ first t.here w → Split t
+      go (covered qs) f q =
+          let h : s.left ≡ t.here ∷ qs = cc in
+          record { after = qs; so-after = f; first-left = ap (lines image) h }
       go (broken x) f q = clash (cc)
 
-  lines_left : (p : Partition) (c : Cursor) (t : Split p c) → lines image s.left ≡ line image p ++ lines image t.after
-  unfolding lines
-  lines_left p c t = ap (lines image) t.first-left
+  pub write-room : HasRoom u (length (lines_of image)) → (t : Step) → step_at image cur ≡ Ok (Some t) → HasRoom v (length (line image t.here))
+  write-room fits t e =
+      let p = split-left t e in
+      omega (arith, ap length p.first-left, length-append (line image t.here) (lines image p.after), writing-room s.writing fits)
 
-  pub write-room : start + length (lines_of image) ≤ length d → (p : Partition) (c : Cursor) → step_at image cur ≡ Next p c → o + length (line image p) ≤ length b
-  write-room fits p c e =
-      let g = s.grown in
-      let t = split-left p c e in
-      let u : start + length g.done ≡ o = g.upto in
-      let j : length g.done + length (lines image s.left) ≡ length (lines_of image) =
-      sym (length-append g.done (lines image s.left)) ∙ ap length g.joined in
-      let l : length (lines image s.left) ≡ length (line image p) + length (lines image t.after) =
-      ap length (lines_left p c t) ∙ length-append (line image p) (lines image t.after) in
-      omega (arith, grown-same g)
+  pub write-next : (t : Step) → step_at image cur ≡ Ok (Some t) → {w : Writer} → Wrote v (line image t.here) w → WritingLines image u t.next.at w
+  write-next t e q =
+      let p = split-left t e in
+      record { left = p.after; so = p.so-after; writing = writing-next s.writing _ _ p.first-left q }
 
-  pub write-next : (p : Partition) (c : Cursor) → step_at image cur ≡ Next p c → {o' : ℕ} {b' : List ℕ} → Put b o (line image p) o' b'
-      → Writing image d start c.at o' b'
-  write-next p c e q =
-      let t = split-left p c e in
-      let r = q.room in
-      let g = s.grown in
-      record {
-        left = t.after;
-        so = t.so-after;
-        grown = grown-piece g (line image p) (lines image t.after) (lines_left p c t) (omega (arith, q.end, grown-same g)) q.end q.text;
-      }
-
-  pub write-end : step_at image cur ≡ End → Put d start (lines_of image) o b
+  pub write-end : step_at image cur ≡ Ok None → Wrote u (lines_of image) v
   unfolding lines
   write-end e =
       let z : s.left ≡ [] = cc (rest_end image cur e, s.so) in
-      let n : lines image s.left ≡ [] = ap (lines image) z in
-      record { end = grown-end s.grown n; room = s.grown.room; text = grown-all s.grown n }
+      writing-end s.writing (ap (lines image) z)

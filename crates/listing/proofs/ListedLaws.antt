@@ -23,7 +23,7 @@ module _ (image buffer : List ℕ) (bytes : AllBytes image) where
       let e = (listing-exactly image text bytes).1 t in
       let l = ap (λ (w : List ℕ). listed_of w (length buffer)) e ∙ listed-fits text (length buffer) h in
       let w = ap (λ (x : List ℕ). written_in x buffer) e ∙ written-first text buffer h in
-      λ i. record { code = (list_answer (l i)).code; amount = (list_answer (l i)).length; buffer = w i }
+      λ i. record { code = (list_answer (l i)).code; amount = (list_answer (l i)).value; buffer = w i }
 
   -- it has none
   seen-short : (text : List ℕ) → Listing image text → length buffer < length text
@@ -32,7 +32,7 @@ module _ (image buffer : List ℕ) (bytes : AllBytes image) where
       let e = (listing-exactly image text bytes).1 t in
       let l = ap (λ (w : List ℕ). listed_of w (length buffer)) e ∙ listed-not text (length buffer) h in
       let w = ap (λ (x : List ℕ). written_in x buffer) e ∙ written-kept text buffer h in
-      λ i. record { code = (list_answer (l i)).code; amount = (list_answer (l i)).length; buffer = w i }
+      λ i. record { code = (list_answer (l i)).code; amount = (list_answer (l i)).value; buffer = w i }
 
   listed-holds : ListRow image buffer (seen_listing image buffer)
   listed-holds = go (listing_text image) ((listing-exactly image _ bytes).0 refl) (dec_le (length (listing_text image)) (length buffer))

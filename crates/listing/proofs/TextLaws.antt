@@ -12,10 +12,11 @@ use Rattle.errors.specs.declared.Error.TheVariants.{ImageLength, BadHeader}
 use Rattle.errors.specs.Errors.{code_of, offset_of}
 use Rattle.errors.proofs.ErrorLaws.{code-range}
 use Rattle.partitions.specs.declared.Partition.{Partition}
-use Rattle.partitions.specs.declared.Cursor.{Cursor}
+use Rattle.partitions.specs.declared.Step.{Step}
 use Rattle.partitions.specs.Walk.{Walk, covered, broken, first, walk}
 use Rattle.partitions.proofs.LoopLaws.{Goes, walk-by-steps}
-use Rattle.listing.specs.declared.Measured.TheVariants.{Lines, Broken}
+use Rattle.std.specs.Prelude.{Ok, Err}
+use Rattle.listing.specs.declared.Lines.{Lines}
 use Rattle.listing.specs.Words.{heading, blocks_word, too_long_text}
 use Rattle.listing.specs.Text.{decimal, line, lines, blocks_sum, text_by, listing_text}
 use Rattle.listing.specs.Helpers.{measured_by, measured_of, lines_by, lines_of, Covered}
@@ -28,13 +29,13 @@ data Within (image : List ℕ) (at : ℕ) : Walk → Type 0 where
   stops : {e : Error} → offset_of e ≤ length image → Within image at (broken e)
 
 module _ (image : List ℕ) (h : length image ≤ 65_536) where
-  within_first : (at : ℕ) (p : Partition) (c : Cursor) → Goes image at p c → (w : Walk) → Within image c.at w → Within image at (first p w)
+  within_first : (at : ℕ) (s : Step) → Goes image at s → (w : Walk) → Within image s.next.at w → Within image at (first s.here w)
   unfolding lines blocks_sum
-  within_first at p c g (covered ps) (fine a b) =
-      let l : length (line image p) ≤ 28 = goes-within image at p c h g in
-      let n : length (line image p ++ lines image ps) ≡ length (line image p) + length (lines image ps) = length-append (line image p) (lines image ps) in
-      fine {ps = p ∷ ps} (omega (arith, g.some, g.past, g.inside)) (omega (arith, g.past, g.inside))
-  within_first at p c g (broken e) (stops a) = stops a
+  within_first at s g (covered ps) (fine a b) =
+      let l : length (line image s.here) ≤ 28 = goes-within image at s h g in
+      let n : length (line image s.here ++ lines image ps) ≡ length (line image s.here) + length (lines image ps) = length-append (line image s.here) (lines image ps) in
+      fine {ps = s.here ∷ ps} (omega (arith, g.some, g.past, g.inside)) (omega (arith, g.past, g.inside))
+  within_first at s g (broken e) (stops a) = stops a
 
   walk-within : Within image 0 (walk image)
   unfolding lines blocks_sum
@@ -68,39 +69,44 @@ text-fits image =
     (λ t. let h : length image ≤ 65_536 = ltb-false _ _ t in rw (text-by-walk image h) (text-by-fits image h))
 
 -- an image of which the lines are measured
-pub record Told (image : List ℕ) (bytes blocks : ℕ) : Type 0 where
+pub record Told (image : List ℕ) (l : Lines) : Type 0 where
   pub all : List Partition
   pub so : walk image ≡ covered all
-  pub bytes-so : bytes ≡ length (lines image all)
-  pub blocks-so : blocks ≡ blocks_sum all
+  pub bytes-so : l.bytes ≡ length (lines image all)
+  pub blocks-so : l.blocks ≡ blocks_sum all
 
-module _ (image : List ℕ) (bytes blocks : ℕ) (m : measured_of image ≡ Lines bytes blocks) where
-  told : Told image bytes blocks
+module _ (image : List ℕ) (l : Lines) (m : measured_of image ≡ Ok l) where
+  told : Told image l
   unfolding measured_of measured_by
   told = go (walk image) refl m
     where
-      go : (w : Walk) → walk image ≡ w → measured_by image w ≡ Lines bytes blocks → Told image bytes blocks
-      go (covered ps) e q = record { all = ps; so = e; bytes-so = cc; blocks-so = cc }
+      go : (w : Walk) → walk image ≡ w → measured_by image w ≡ Ok l → Told image l
+      go (covered ps) e q =
+          let s : record { bytes = length (lines image ps); blocks = blocks_sum ps } ≡ l = cc in
+          record { all = ps; so = e; bytes-so = λ i. (sym s i).bytes; blocks-so = λ i. (sym s i).blocks }
       go (broken x) e q = clash (cc)
 
   pub measured-covered : Covered image
   measured-covered = record { all = told.all; so = told.so }
 
-  pub measured-pieces : heading ++ lines_of image ++ decimal blocks ++ blocks_word ≡ text_by image (walk image)
+  pub measured-pieces : heading ++ lines_of image ++ decimal l.blocks ++ blocks_word ≡ text_by image (walk image)
   unfolding text_by lines_of lines_by
   measured-pieces = rw (told.blocks-so, told.so)
 
-  pub measured-lines : length (lines_of image) ≡ bytes
+  pub measured-lines : length (lines_of image) ≡ l.bytes
   unfolding lines_of lines_by
   measured-lines = rw told.so (sym told.bytes-so)
 
-  pub measured-length : length (text_by image (walk image)) ≡ bytes + length (decimal blocks) + 27
+  pub measured-length : length (text_by image (walk image)) ≡ l.bytes + length (decimal l.blocks) + 27
   measured-length = sym (ap length measured-pieces) ∙ simp length-append (omega (arith, measured-lines))
 
-pub measured-broken : (image : List ℕ) (e : Error) → measured_of image ≡ Broken e → text_by [] (broken e) ≡ text_by image (walk image)
+-- what is known of an image of which the lines are measured
+pub ruleset measured = (measured-covered, measured-lines)
+
+pub measured-broken : (image : List ℕ) (e : Error) → measured_of image ≡ Err e → text_by [] (broken e) ≡ text_by image (walk image)
 unfolding measured_of measured_by text_by
 measured-broken image e m = go (walk image) m
   where
-    go : (w : Walk) → measured_by image w ≡ Broken e → text_by [] (broken e) ≡ text_by image w
+    go : (w : Walk) → measured_by image w ≡ Err e → text_by [] (broken e) ≡ text_by image w
     go (covered ps) q = clash (cc)
     go (broken x) q = let z : x ≡ e = cc in rw z

@@ -1,7 +1,7 @@
 -- Laws of the text's words: numbers in decimal and hex, names, lines, and the text of a refused image.
 use Prim.Native.Nat.{ℕ, zero, suc, ◌+◌, ◌/◌, ◌%◌, ◌^◌, ◌≤◌, ◌<◌}
 use mathlib.Core.Path.{◌≡◌, refl, sym, ap, ◌∙◌}
-use mathlib.Core.Bool.{◌&&◌, cond}
+use mathlib.Core.Bool.{◌&&◌, cond, not}
 use mathlib.Core.List.{List, [], ◌∷◌, ◌++◌, append_assoc}
 use native.Mathlib.Numerals.{add-one}
 use native.Mathlib.Omega.{arith}
@@ -9,6 +9,7 @@ use lib.Dec.{eqb, leb, ltb}
 use lib.ListN.{length, get_or, drop, length-append, drop_of_length-le}
 use lib.Seq.{drop-cons}
 use borrow.Author.Tests.{eq-eqb, ne_eqb, ltb-true, ltb-false, lt-ltb, le-ltb, le-leb, lt-leb}
+use Rattle.std.specs.List.{prefix_len}
 use Rattle.lists.proofs.Tests.{split}
 use Rattle.header.specs.declared.Header.{Header}
 use Rattle.header.specs.Header.{name_at, header_at}
@@ -114,6 +115,13 @@ module _ (name : List ℕ) (i : ℕ) where
   unfolding shown_name
   name-end h = rw (drop_of_length-le name h)
 
+-- as many bytes are shown as stand before the first 0x00
+pub shown_length : (name : List ℕ) → prefix_len (λ b. not (eqb b 0)) name ≡ length (shown_name name)
+unfolding shown_name
+shown_length [] = refl
+shown_length (b ∷ bs) =
+    split (eqb b 0) (λ t. rw (t, shown_name)) (λ t. rw (t, shown_name) (ap (λ n. 1 + n) (shown_length bs) ∙ omega arith))
+
 pub name-within : (name : List ℕ) → length (shown_name name) ≤ length name
 unfolding shown_name
 name-within [] = omega arith
@@ -130,41 +138,26 @@ name-shown (b ∷ bs) (suc i) h =
     split (eqb b 0) (λ t. let q = rw (t, shown_name) at h in absurd (omega arith))
     (λ t. let q = rw (t, shown_name) at h in rw (t, shown_name) (name-shown bs i (omega arith)))
 
-pub line-length : (image : List ℕ) (p : Partition)
-    → length (line image p) ≡ length (decimal p.offset) + length (decimal p.blocks.0) + length (shown_name (name_at image p.offset)) + 6
-unfolding line hex_byte
-line-length image p = simp length-append (omega arith)
-
-pub name-twelve : (image : List ℕ) (at : ℕ) → length (shown_name (name_at image at)) ≤ 12
-name-twelve image at = omega (arith, name-within (name_at image at), name-length image at)
-
--- the name of a header that was read
+-- the name of a header that is read
 read_name : (image : List ℕ) (at : ℕ) (h : Header) → h ≡ header_at image at → h.name ≡ name_at image at
 read_name image at h e = (λ i. (e i).name) ∙ name-read image at
 
-pub read-twelve : (image : List ℕ) (at : ℕ) (h : Header) → h ≡ header_at image at → (n : ℕ) → n ≡ length (shown_name h.name) → n ≤ 12
-read-twelve image at h e n q = rw (q, read_name image at h e) (name-twelve image at)
+pub name_twelve : (image : List ℕ) (at : ℕ) → length (shown_name (header_at image at).name) ≤ 12
+name_twelve image at = rw (name-read image at) (omega (arith, name-within (name_at image at), name-length image at))
+
+-- the bytes of a line
+pub line_length : (image : List ℕ) (p : Partition)
+    → length (line image p) ≡ length (decimal p.offset) + length (decimal p.blocks.0) + length (shown_name (header_at image p.offset).name) + 6
+unfolding line hex_byte
+line_length image p = rw (name-read image p.offset) (simp length-append (omega arith))
+
+-- what a line takes, and its pieces
+pub ruleset line_lengths = (line_length, length-append)
 
 -- with at most five digits in each number a line has at most 28 bytes
 pub line-within : (image : List ℕ) (p : Partition) → p.offset < 100_000 → p.blocks.0 < 100_000 → length (line image p) ≤ 28
 line-within image p o b =
-    rw line-length (omega (arith, decimal-within 4 p.offset o, decimal-within 4 p.blocks.0 b, name-twelve image p.offset))
-
-pub line-sum : (image : List ℕ) (p : Partition) (h : Header) → h ≡ header_at image p.offset → (a b n : ℕ)
-    → a ≡ length (decimal p.offset) → b ≡ length (decimal p.blocks.0) → n ≡ length (shown_name h.name)
-    → a + b + n + 6 ≡ length (line image p)
-line-sum image p h e a b n ea eb en = sym (line-length image p ∙ rw (ea, eb, en, read_name image p.offset h e))
-
--- the bytes of the line, by its pieces
-pub line-room : (image : List ℕ) (p : Partition) (h : Header) → h ≡ header_at image p.offset
-    → (length (decimal p.offset ++ 0x20 ∷ []) ≡ length (decimal p.offset) + 1)
-    × (length (decimal p.blocks.0 ++ 0x20 ∷ []) ≡ length (decimal p.blocks.0) + 1)
-    × (length (decimal p.offset) + length (decimal p.blocks.0) + length (shown_name h.name) + 6 ≡ length (line image p))
-line-room image p h e = (
-  length-append (decimal p.offset) (0x20 ∷ []),
-  length-append (decimal p.blocks.0) (0x20 ∷ []),
-  line-sum image p h e _ _ _ refl refl refl,
-)
+    omega (arith, line_length image p, decimal-within 4 p.offset o, decimal-within 4 p.blocks.0 b, name_twelve image p.offset)
 
 -- a line without its end, piece by piece
 abbrev pub line_words : Partition → List ℕ → List ℕ

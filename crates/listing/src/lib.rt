@@ -1,56 +1,26 @@
 // The text of a listing, written into a lent buffer.
 #![tactic(auto)]
 
-ghost use Rattle.std.specs.Prelude.{◌≡◌, [], ◌∷◌, ◌++◌, ◌+◌, ◌≤◌, ◌<◌, length};
+ghost use Rattle.std.specs.Prelude.{◌≡◌, ◌==◌, not, [], ◌∷◌, ◌++◌, ◌+◌, ◌≤◌, ◌<◌, length};
+ghost use Rattle.std.specs.List.{prefix_len};
 ghost use Rattle.lists.specs.Pasted.{written_in};
 ghost use Rattle.partitions.specs.Walk.{broken, walk};
 ghost use Rattle.listing.specs.Text.{decimal, hex_digit, hex_byte, visible, shown_name, line, text_by, listing_text};
-ghost use Rattle.listing.specs.Listed.{listed_of, list_answer};
-ghost use Rattle.listing.specs.Helpers.{Put, measured_of, lines_of, Covered};
+ghost use Rattle.listing.specs.Listed.{listed_of};
+ghost use Rattle.listing.specs.Helpers.{HasRoom, Wrote, measured_of, lines_of, Covered};
 
 use errors::Error;
 use header::Header;
-use partitions::{Checked, Cursor, Partition, Step};
+use partitions::{Cursor, Partition};
 
 // An image of more bytes is too long for a listing.
 const MAX_LISTED: usize = 65536;
 
-// What writing a listing answers.
+// What the lines of an image take: the bytes of all lines, and the blocks of all partitions.
 #[derive(Clone, Copy)]
-pub enum Listed {
-    // The text stands at the buffer's start; its length.
-    Written { length: usize },
-    Refused(Error),
-}
-
-// The caller's view of `Listed`: code 0 and the length, or the error's code and 0.
-#[derive(Clone, Copy)]
-pub struct ListAnswer {
-    pub code: u32,
-    pub length: usize,
-}
-
-impl Listed {
-    pub fn answer(self) -> ListAnswer
-        ensures { result ≡ list_answer self }
-    {
-        match self {
-            Listed::Written { length } => ListAnswer { code: 0, length },
-            Listed::Refused(e) => ListAnswer {
-                code: e.code(),
-                length: 0,
-            },
-        }
-    }
-}
-
-// What the lines of an image take.
-#[derive(Clone, Copy)]
-enum Measured {
-    // The bytes of all lines, and the blocks of all partitions.
-    Lines { bytes: usize, blocks: usize },
-    // A rule is broken.
-    Broken(Error),
+struct Lines {
+    bytes: usize,
+    blocks: usize,
 }
 
 // The digits of a number in decimal.
@@ -58,132 +28,44 @@ fn decimal_len(n: usize) -> usize
     ensures value { result ≡ length (decimal n) }
     ensures upper_bound { result ≤ 20 }
 {
-    let mut m = n;
-    let mut len: usize = 1;
-    while 10 <= m {
-        m /= 10;
+    // The turns are the digits after the first: no list or range has one for each.
+    let mut left = n;
+    let mut len = 1;
+    while 10 <= left {
+        left /= 10;
         len += 1;
     }
     len
 }
 
-// Writes a number in decimal, the last digit first; answers the offset after it.
-fn put_decimal(text: &mut [u8], at: usize, n: usize) -> usize
-    requires { at + length (decimal n) ≤ length text.old }
-    ensures { Put text.old at (decimal n) result text.new }
-{
-    let end = at + decimal_len(n);
-    let mut i = end;
-    let mut m = n;
-    while 10 <= m {
-        i -= 1;
-        text[i] = (48 + m % 10) as u8;
-        m /= 10;
-    }
-    text[at] = (48 + m) as u8;
-    end
-}
-
-// Writes a byte; answers the offset after it.
-fn put_byte(text: &mut [u8], at: usize, b: u8) -> usize
-    requires { at + 1 ≤ length text.old }
-    ensures { Put text.old at (b ∷ []) result text.new }
-{
-    text[at] = b;
-    at + 1
-}
-
-// Writes a number in decimal and a space; answers the offset after them.
-fn put_field(text: &mut [u8], at: usize, n: usize) -> usize
-    requires { at + length (decimal n) + 1 ≤ length text.old }
-    ensures { Put text.old at (decimal n ++ 0x20 ∷ []) result text.new }
-{
-    let end = put_decimal(text, at, n);
-    put_byte(text, end, b' ')
-}
-
-// Writes a piece; answers the offset after it.
-fn put(text: &mut [u8], at: usize, piece: &[u8]) -> usize
-    requires { at + length piece.now ≤ length text.old }
-    ensures { Put text.old at piece.now result text.new }
-{
-    let end = at + piece.len();
-    lists::copy(piece, &mut text[at..end]);
-    end
-}
-
 // One hex digit, in capitals.
+#[tactic(auto, unfolding(crate::specs::Text::hex_digit))]
 fn hex_digit(n: u8) -> u8
     requires { n < 16 }
     ensures { result ≡ hex_digit n }
 {
-    if n < 10 { 48 + n } else { 55 + n }
-}
-
-// Writes a byte in two hex digits; answers the offset after them.
-fn put_hex(text: &mut [u8], at: usize, b: u8) -> usize
-    requires { at + 2 ≤ length text.old }
-    ensures { Put text.old at (hex_byte b) result text.new }
-{
-    text[at] = hex_digit(b / 16);
-    text[at + 1] = hex_digit(b % 16);
-    at + 2
+    match n {
+        0..=9 => b'0' + n,
+        _ => b'A' + (n - 10),
+    }
 }
 
 // A byte of a name as it is shown.
+#[tactic(auto, unfolding(crate::specs::Text::visible))]
 fn visible_byte(b: u8) -> u8
     ensures { result ≡ visible b }
 {
-    if b < 0x21 {
-        return 0x3F;
+    match b {
+        0x21..=0x7E => b,
+        _ => b'?',
     }
-    if 0x7E < b {
-        return 0x3F;
-    }
-    b
 }
 
 // The bytes of a name before its first 0x00.
 fn name_len(name: &[u8]) -> usize
-    ensures { result ≡ length (shown_name name.now) }
+    ensures { result ≡ prefix_len (λ b. not (b == 0)) name.now }
 {
-    let mut i = 0;
-    while i < name.len() {
-        if name[i] == 0 {
-            return i;
-        }
-        i += 1;
-    }
-    i
-}
-
-// The same of a header's name.
-fn header_name_len(name: &[u8; 12]) -> usize
-    ensures { result ≡ length (shown_name name.now) }
-{
-    name_len(name)
-}
-
-// Writes a name as it is shown; answers the offset after it.
-fn put_name(text: &mut [u8], at: usize, name: &[u8]) -> usize
-    requires { at + length (shown_name name.now) ≤ length text.old }
-    ensures { Put text.old at (shown_name name.now) result text.new }
-{
-    let n = name_len(name);
-    let mut i = 0;
-    while i < n {
-        text[at + i] = visible_byte(name[i]);
-        i += 1;
-    }
-    at + n
-}
-
-// The same of a header's name.
-fn put_header_name(text: &mut [u8], at: usize, name: &[u8; 12]) -> usize
-    requires { at + length (shown_name name.now) ≤ length text.old }
-    ensures { Put text.old at (shown_name name.now) result text.new }
-{
-    put_name(text, at, name)
+    name.iter().take_while(|b| **b != 0).count()
 }
 
 // The bytes of a partition's line: beside numbers and name three spaces, two hex digits and the end.
@@ -193,84 +75,149 @@ fn line_len(image: &[u8], p: Partition) -> usize
     let name = Header::read(image, p.offset).name;
     let place = decimal_len(p.offset);
     let blocks = decimal_len(p.blocks.0 as usize);
-    place + blocks + header_name_len(&name) + 6
+    place + blocks + name_len(&name) + 6
 }
 
-// Writes a partition's line; answers the offset after it.
-fn put_line(text: &mut [u8], start: usize, image: &[u8], p: Partition) -> usize
-    requires { start + length (line image.now p) ≤ length text.old }
-    ensures { Put text.old start (line image.now p) result text.new }
-{
-    let name = Header::read(image, p.offset).name;
-    let mut at = put_field(text, start, p.offset);
-    at = put_field(text, at, p.blocks.0 as usize);
-    at = put_hex(text, at, p.signature);
-    at = put_byte(text, at, b' ');
-    at = put_header_name(text, at, &name);
-    put_byte(text, at, b'\n')
-}
-
-// What the lines of an image take.
-fn measure(image: &[u8]) -> Measured
+// What the lines of an image take, or the rule that it breaks.
+fn measure(image: &[u8]) -> Result<Lines, Error>
     requires { length image.now ≤ 65536 }
     ensures { result ≡ measured_of image.now }
 {
-    let checked = partitions::check(image);
-    if let Checked::Refused(e) = checked {
-        return Measured::Broken(e);
-    }
+    partitions::check(image)?;
     let mut cursor = Cursor::start();
     let mut bytes: usize = 0;
     let mut blocks: usize = 0;
     loop {
-        let step = cursor.step(image);
-        match step {
-            Step::Next(p, next) => {
+        match cursor.step(image) {
+            Ok(Some(step)) => {
+                let p = step.here;
+                cursor = step.next;
                 bytes += line_len(image, p);
                 blocks += p.blocks.0 as usize;
-                cursor = next;
             }
-            Step::End => break Measured::Lines { bytes, blocks },
-            Step::Broken(e) => break Measured::Broken(e),
+            Ok(None) => break Ok(Lines { bytes, blocks }),
+            Err(e) => break Err(e),
         }
     }
 }
 
-// Writes the lines of an accepted image; answers the offset after them.
-fn put_lines(text: &mut [u8], start: usize, image: &[u8]) -> usize
-    requires covered { Covered image.now }
-    requires image_in_bounds { start + length (lines_of image.now) ≤ length text.old }
-    ensures { Put text.old start (lines_of image.now) result text.new }
-{
-    let mut cursor = Cursor::start();
-    let mut at = start;
-    loop {
-        let step = cursor.step(image);
-        match step {
-            Step::Next(p, next) => {
-                at = put_line(text, at, image, p);
-                cursor = next;
+// A text that is being written into a lent buffer, up to the offset `at`.
+#[derive(Drop)]
+struct Writer<'a> {
+    text: &'a mut [u8],
+    at: usize,
+}
+
+impl Writer<'_> {
+    // Writes a byte.
+    fn put_byte(&mut self, b: u8)
+        requires { HasRoom self.old 1 }
+        ensures { Wrote self.old (b ∷ []) self.new }
+    {
+        self.text[self.at] = b;
+        self.at += 1;
+    }
+
+    // Writes a piece.
+    fn put(&mut self, piece: &[u8])
+        requires { HasRoom self.old (length piece.now) }
+        ensures { Wrote self.old piece.now self.new }
+    {
+        let end = self.at + piece.len();
+        self.text[self.at..end].copy_from_slice(piece);
+        self.at = end;
+    }
+
+    // Writes a number in decimal, the last digit first.
+    fn put_decimal(&mut self, n: usize)
+        requires { HasRoom self.old (length (decimal n)) }
+        ensures { Wrote self.old (decimal n) self.new }
+    {
+        let start = self.at;
+        let end = start + decimal_len(n);
+        let mut left = n;
+        for i in (start..end).rev() {
+            self.text[i] = b'0' + (left % 10) as u8;
+            left /= 10;
+        }
+        self.at = end;
+    }
+
+    // Writes a number in decimal and a space.
+    fn put_field(&mut self, n: usize)
+        requires { HasRoom self.old (length (decimal n) + 1) }
+        ensures { Wrote self.old (decimal n ++ 0x20 ∷ []) self.new }
+    {
+        self.put_decimal(n);
+        self.put_byte(b' ');
+    }
+
+    // Writes a byte in two hex digits.
+    fn put_hex(&mut self, b: u8)
+        requires { HasRoom self.old 2 }
+        ensures { Wrote self.old (hex_byte b) self.new }
+    {
+        self.put_byte(hex_digit(b / 16));
+        self.put_byte(hex_digit(b % 16));
+    }
+
+    // Writes a name as it is shown.
+    fn put_name(&mut self, name: &[u8])
+        requires { HasRoom self.old (length (shown_name name.now)) }
+        ensures { Wrote self.old (shown_name name.now) self.new }
+    {
+        for b in name {
+            if *b == 0 {
+                break;
             }
-            Step::End => break at,
-            Step::Broken(_) => break at,
+            self.put_byte(visible_byte(*b));
+        }
+    }
+
+    // Writes a partition's line.
+    #[tactic(auto, using(crate::proofs::WordLaws::line_lengths), unfolding(crate::specs::Text::hex_byte))]
+    fn put_line(&mut self, image: &[u8], p: Partition)
+        requires { HasRoom self.old (length (line image.now p)) }
+        ensures { Wrote self.old (line image.now p) self.new }
+    {
+        let name = Header::read(image, p.offset).name;
+        self.put_field(p.offset);
+        self.put_field(p.blocks.0 as usize);
+        self.put_hex(p.signature);
+        self.put_byte(b' '); // before an empty name too
+        self.put_name(&name);
+        self.put_byte(b'\n');
+    }
+
+    // Writes the lines of an accepted image.
+    fn put_lines(&mut self, image: &[u8])
+        requires covered { Covered image.now }
+        requires image_in_bounds { HasRoom self.old (length (lines_of image.now)) }
+        ensures { Wrote self.old (lines_of image.now) self.new }
+    {
+        let mut cursor = Cursor::start();
+        while let Ok(Some(step)) = cursor.step(image) {
+            cursor = step.next;
+            self.put_line(image, step.here);
         }
     }
 }
 
 // A text of one piece.
-fn list_piece(text: &mut [u8], piece: &[u8]) -> Listed
+fn list_piece(text: &mut [u8], piece: &[u8]) -> Result<usize, Error>
     ensures value { result ≡ listed_of piece.now (length text.old) }
     ensures text_after { text.new ≡ written_in piece.now text.old }
 {
     if text.len() < piece.len() {
-        return Listed::Refused(Error::ShortBuffer);
+        return Err(Error::ShortBuffer);
     }
-    let length = put(text, 0, piece);
-    Listed::Written { length }
+    let mut writer = Writer { text, at: 0 };
+    writer.put(piece);
+    Ok(writer.at)
 }
 
 // The text of a refused image.
-fn list_refused(text: &mut [u8], e: Error) -> Listed
+fn list_refused(text: &mut [u8], e: Error) -> Result<usize, Error>
     ensures value { result ≡ listed_of (text_by [] (broken e)) (length text.old) }
     ensures text_after { text.new ≡ written_in (text_by [] (broken e)) text.old }
 {
@@ -278,44 +225,47 @@ fn list_refused(text: &mut [u8], e: Error) -> Listed
     let offset = e.offset();
     let digits = decimal_len(code) + decimal_len(offset);
     if text.len() < digits + 13 {
-        return Listed::Refused(Error::ShortBuffer);
+        return Err(Error::ShortBuffer);
     }
-    let mut at = put(text, 0, b"refused ");
-    at = put_decimal(text, at, code);
-    at = put(text, at, b" at ");
-    at = put_decimal(text, at, offset);
-    let length = put_byte(text, at, b'\n');
-    Listed::Written { length }
+    let mut writer = Writer { text, at: 0 };
+    writer.put(b"refused ");
+    writer.put_decimal(code);
+    writer.put(b" at ");
+    writer.put_decimal(offset);
+    writer.put_byte(b'\n');
+    Ok(writer.at)
 }
 
 // The text of an accepted image, of which the size of the lines is known.
-fn list_accepted(text: &mut [u8], image: &[u8], bytes: usize, blocks: usize) -> Listed
+#[tactic(auto, using(crate::proofs::TextLaws::measured))]
+fn list_accepted(text: &mut [u8], image: &[u8], lines: Lines) -> Result<usize, Error>
     requires image_len_bound { length image.now ≤ 65536 }
-    requires image_value { measured_of image.now ≡ Measured.Lines bytes blocks }
+    requires image_value { measured_of image.now ≡ Ok lines }
     ensures value { result ≡ listed_of (text_by image.now (walk image.now)) (length text.old) }
     ensures text_after { text.new ≡ written_in (text_by image.now (walk image.now)) text.old }
 {
+    let Lines { bytes, blocks } = lines;
     if text.len() < bytes + decimal_len(blocks) + 27 {
-        return Listed::Refused(Error::ShortBuffer);
+        return Err(Error::ShortBuffer);
     }
-    let mut at = put(text, 0, b"at blocks sig name\n");
-    at = put_lines(text, at, image);
-    at = put_decimal(text, at, blocks);
-    let length = put(text, at, b" blocks\n");
-    Listed::Written { length }
+    let mut writer = Writer { text, at: 0 };
+    writer.put(b"at blocks sig name\n");
+    writer.put_lines(image);
+    writer.put_decimal(blocks);
+    writer.put(b" blocks\n");
+    Ok(writer.at)
 }
 
 // Writes the listing of an image to the buffer's start; nothing is written where it has no room.
-pub fn listing(image: &[u8], text: &mut [u8]) -> Listed
+pub fn listing(image: &[u8], text: &mut [u8]) -> Result<usize, Error>
     ensures value { result ≡ listed_of (listing_text image.now) (length text.old) }
     ensures text_after { text.new ≡ written_in (listing_text image.now) text.old }
 {
     if MAX_LISTED < image.len() {
         return list_piece(text, b"too long\n");
     }
-    let measured = measure(image);
-    match measured {
-        Measured::Lines { bytes, blocks } => list_accepted(text, image, bytes, blocks),
-        Measured::Broken(e) => list_refused(text, e),
+    match measure(image) {
+        Ok(lines) => list_accepted(text, image, lines),
+        Err(e) => list_refused(text, e),
     }
 }

@@ -1,19 +1,22 @@
 -- Laws of `until_either`: what stands at the first b or c, and before it; and the turns of the loops that look for it.
-use Prim.Native.Nat.{ℕ, zero, suc, ◌+◌, ◌-◌, ◌<◌, ◌≤◌}
+use Prim.Native.Nat.{ℕ, suc, ◌+◌, ◌-◌, ◌<◌, ◌≤◌}
 use mathlib.Core.Path.{◌≡◌, refl, sym, ap, ◌∙◌}
-use mathlib.Core.Bool.{Bool, true, false, ◌||◌}
+use mathlib.Core.Bool.{Bool, true, false, cond, not, ◌||◌}
 use mathlib.Core.List.{List, [], ◌∷◌, ◌++◌}
 use mathlib.Core.Logic.{◌≢◌, ◌⊎◌, inl, inr}
 use native.Mathlib.Omega.{arith}
 use lib.Dec.{ltb, eqb}
-use lib.ListN.{length, get_or, take, drop, length-drop, take-append-drop, drop_of_length-le}
-use lib.Seq.{get_or-drop, drop-drop, take-take, length-take-le}
-use borrow.Author.Tests.{eqb-true, eqb-false, eq-eqb, ne_eqb, ltb-true, ltb-false, lt-ltb, le-ltb}
+use lib.ListN.{length, get_or, take, drop, length-drop, take-append-drop}
+use lib.Seq.{get_or-drop, drop-drop, take-take, length-take-le, drop_at}
+use Rattle.std.specs.Prelude.{position, unwrap_or, fold}
+use Rattle.std.specs.List.{position_or_len}
+use Rattle.std.proofs.lemmas.List.Sums.{prefix_len-le-length, prefix_len-drop_all, fails_before_first, passes_at_first}
+use borrow.Author.Tests.{eqb-true, eq-eqb, ne_eqb, ltb-true, ltb-false}
 use Rattle.lists.specs.Bytes.{Every}
 use Rattle.lists.specs.Helpers.{either, until_either}
 use Rattle.lists.proofs.Tests.{split, clash}
 use Rattle.lists.proofs.ListLaws.{drop-next}
-use Rattle.lists.proofs.ByteLaws.{every_take}
+use Rattle.lists.proofs.ByteLaws.{every_take, every-before}
 
 -- ---- the test of a byte
 
@@ -40,73 +43,45 @@ either_second b c x h e = cc (ne_eqb x b h, eq-eqb x c e)
 -- ---- one byte further
 
 module _ (b c : ℕ) where
-  pub until_none : until_either b c [] ≡ 0
-  unfolding until_either
-  until_none = refl
-
-  pub until-here : (x : ℕ) (xs : List ℕ) → either b c x ≡ true → until_either b c (x ∷ xs) ≡ 0
-  unfolding until_either
-  until-here x xs e = rw (e, until_either)
-
   pub until-next : (x : ℕ) (xs : List ℕ) → either b c x ≡ false → until_either b c (x ∷ xs) ≡ suc (until_either b c xs)
   unfolding until_either
-  until-next x xs e = rw (e, until_either)
+  until-next x xs e =
+      let g : until_either b c (x ∷ xs) ≡ 1 + until_either b c xs = ap (λ (t : Bool). cond (not t) (1 + until_either b c xs) 0) e in
+      omega (arith, g)
 
   pub until-short : (l : List ℕ) → until_either b c l ≤ length l
-  until-short [] = omega (arith, until_none)
-  until-short (x ∷ xs) =
-      split (either b c x)
-      (λ t. omega (arith, until-here x xs t))
-      (λ t. omega (arith, until-next x xs t, until-short xs))
+  unfolding until_either
+  until-short l = prefix_len-le-length _ l
+
+  -- no byte stands past the end
+  pub until-end : (l : List ℕ) (i : ℕ) → length l ≤ i → until_either b c (drop i l) ≡ 0
+  unfolding until_either
+  until-end l i h = prefix_len-drop_all _ l i h
 
   -- no b or c before it
+  before-it : (l : List ℕ) (k : ℕ) → k < until_either b c l → either b c (get_or l k 0) ≡ false
+  unfolding until_either
+  before-it l k h = fails_before_first (either b c) l k 0 h
+
   pub until-before : (l : List ℕ) → Every (λ x. either b c x ≡ false) (take (until_either b c l) l)
-  until-before [] = rw until_none tt
-  until-before (x ∷ xs) =
-      split (either b c x)
-      (λ t. rw (until-here x xs t) tt)
-      (λ t. rw (until-next x xs t) (t, until-before xs))
+  until-before l = every-before (λ x. either b c x ≡ false) l (until_either b c l) (until-short l) (λ k h. before-it l k h)
 
   -- b or c stands there
   pub until-there : (l : List ℕ) → until_either b c l < length l → either b c (get_or l (until_either b c l) 0) ≡ true
-  until-there [] h = absurd (omega arith)
-  until-there (x ∷ xs) h =
-      split (either b c x)
-      (λ t. rw (until-here x xs t) t)
-      (λ t. rw (until-next x xs t) (until-there xs (omega (arith, until-next x xs t))))
-
-  pub until_skip : (l : List ℕ) (k : ℕ) → k ≤ until_either b c l → until_either b c l ≡ k + until_either b c (drop k l)
-  until_skip l zero h = omega arith
-  until_skip [] (suc k) h = absurd (omega (arith, until_none))
-  until_skip (x ∷ xs) (suc k) h =
-      split (either b c x)
-      (λ t. absurd (omega (arith, until-here x xs t)))
-      (λ t. let e = until-next x xs t in omega (arith, until_skip xs k (omega arith)))
+  unfolding until_either
+  until-there l h = passes_at_first (either b c) l 0 h
 
   -- it is the first
-  pub until-first : (l : List ℕ) (k : ℕ) → k < length l → either b c (get_or l k 0) ≡ true → until_either b c l ≤ k
-  until-first [] k h e = absurd (omega arith)
-  until-first (x ∷ xs) zero h e = omega (arith, until-here x xs e)
-  until-first (x ∷ xs) (suc k) h e =
-      split (either b c x)
-      (λ t. omega (arith, until-here x xs t))
-      (λ t. omega (arith, until-next x xs t, until-first xs k (omega arith) e))
+  pub until-first : (l : List ℕ) (k : ℕ) → either b c (get_or l k 0) ≡ true → until_either b c l ≤ k
+  until-first l k e =
+      split (ltb k (until_either b c l)) (λ t. clash (cc (before-it l k (ltb-true k (until_either b c l) t), e))) (λ t. ltb-false k (until_either b c l) t)
 
-  -- one byte more that is looked at
-  pub until-look : (l : List ℕ) (k : ℕ) → k < length l → ltb (until_either b c l) (k + 1) ≡ (ltb (until_either b c l) k || either b c (get_or l k 0))
-  until-look l k h =
-      split (ltb (until_either b c l) k)
-      (λ t. rw (lt-ltb (until_either b c l) (k + 1) (omega (arith, ltb-true (until_either b c l) k t)), t))
-      (λ t. split (either b c (get_or l k 0))
-      (λ e. rw (lt-ltb (until_either b c l) (k + 1) (omega (arith, until-first l k h e)), t, e))
-      (λ e. rw (le-ltb (until_either b c l) (k + 1) (further (ltb-false (until_either b c l) k t) e), t, e)))
-    where
-      further : k ≤ until_either b c l → either b c (get_or l k 0) ≡ false → k + 1 ≤ until_either b c l
-      further n e =
-          split (eqb (until_either b c l) k)
-          (λ t. let q = eqb-true (until_either b c l) k t in
-          clash (cc (until-there l (omega arith), ap (λ (j : ℕ). either b c (get_or l j 0)) q, e)))
-          (λ t. omega (arith, eqb-false (until_either b c l) k t))
+  -- the index of the first, or the length where there is none
+  pub until_found : (l : List ℕ) → unwrap_or (position (either b c) l) (length l) ≡ until_either b c l
+  unfolding until_either
+  until_found l =
+      let n = position_or_len (either b c) l in
+      split (ltb n (length l)) (λ t. rw t) (λ t. rw t (omega (arith, ltb-false n (length l) t, until-short l)))
 
 -- ---- at the offset r of the first b or c from `from` on
 
@@ -139,7 +114,7 @@ module _ (s : List ℕ) (from b c : ℕ) {r : ℕ} (e : r ≡ from + until_eithe
       (split (either b c (get_or s j 0))
       (λ t. absurd (omega (
         arith,
-        until-first b c (drop from s) n (omega arith)
+        until-first b c (drop from s) n
             (ap (either b c) (get_or-drop from s n 0) ∙ ap (λ (m : ℕ). either b c (get_or s m 0)) q ∙ t),
       )))
       (λ t. t))
@@ -172,49 +147,45 @@ module _ (s : List ℕ) (from b c : ℕ) {r : ℕ} (e : r ≡ from + until_eithe
   pub either-plain : Every (λ x. either b c x ≡ false) (take (r - from) (drop from s))
   either-plain = plain-bytes s from b c (omega arith) (omega arith)
 
--- ---- the turns of the loops
+-- ---- one byte further from e, where no b or c stands from `from` up to e
 
-module _ (s : List ℕ) (b c : ℕ) where
-  -- the byte at k of a chunk
-  pub chunk-turn : (at k : ℕ) {hit : Bool} → hit ≡ ltb (until_either b c (drop at s)) k → at + k < length s
-      → ((hit || eqb (get_or s (at + k) 0) b) || eqb (get_or s (at + k) 0) c) ≡ ltb (until_either b c (drop at s)) (k + 1)
-  chunk-turn at k {hit} e h =
-      or_assoc hit (eqb (get_or s (at + k) 0) b) (eqb (get_or s (at + k) 0) c)
-      ∙ ap (λ (t : Bool). t || either b c (get_or s (at + k) 0)) e
-      ∙ ap (λ (x : ℕ). ltb (until_either b c (drop at s)) k || either b c x) (sym (get_or-drop at s k 0))
-      ∙ sym (until-look b c (drop at s) k (omega (arith, length-drop at s)))
-    where
-      or_assoc : (t u v : Bool) → ((t || u) || v) ≡ (t || (u || v))
-      or_assoc true u v = refl
-      or_assoc false u v = refl
+module _ (s : List ℕ) (b c from e : ℕ) (i : from + until_either b c (drop from s) ≡ e + until_either b c (drop e s)) where
+  at_first : e < length s → either b c (get_or s e 0) ≡ true → e ≡ from + until_either b c (drop from s)
+  at_first h t =
+      let first = until-first b c (drop e s) 0 (ap (either b c) (get_or-drop e s 0 0 ∙ ap (λ (k : ℕ). get_or s k 0) (omega arith)) ∙ t) in
+      omega arith
 
-  -- before the first byte of a chunk
-  pub chunk-none : (at : ℕ) → false ≡ ltb (until_either b c (drop at s)) 0
-  chunk-none at = sym (le-ltb (until_either b c (drop at s)) 0 (omega arith))
+  pub find_first : e < length s → get_or s e 0 ≡ b → e ≡ from + until_either b c (drop from s)
+  find_first h q = at_first h (either_first b c (get_or s e 0) q)
 
-  -- after the last byte of a chunk of n
-  pub chunk_end : (at n k : ℕ) {hit : Bool} → hit ≡ ltb (until_either b c (drop at s)) k → k ≤ n → n ≤ k → hit ≡ ltb (until_either b c (drop at s)) n
-  chunk_end at n k e h l = let q : k ≡ n = omega arith in e ∙ ap (ltb (until_either b c (drop at s))) q
+  pub find-second : e < length s → get_or s e 0 ≢ b → get_or s e 0 ≡ c → e ≡ from + until_either b c (drop from s)
+  find-second h n q = at_first h (either_second b c (get_or s e 0) n q)
 
-  -- a chunk of n bytes that has none
-  pub chunk-skipped : (from at n : ℕ) → from + until_either b c (drop from s) ≡ at + until_either b c (drop at s)
-      → ltb (until_either b c (drop at s)) n ≡ false → from + until_either b c (drop from s) ≡ at + n + until_either b c (drop (at + n) s)
-  chunk-skipped from at n e t =
-      omega (arith, until_skip b c (drop at s) n (ltb-false (until_either b c (drop at s)) n t), ap (until_either b c) (drop-drop n at s))
+  pub find-next : e < length s → get_or s e 0 ≢ b → get_or s e 0 ≢ c → from + until_either b c (drop from s) ≡ e + 1 + until_either b c (drop (e + 1) s)
+  find-next h n m =
+      omega (arith, ap (until_either b c) (drop-next s e h) ∙ until-next b c (get_or s e 0) (drop (e + 1) s) (either-none b c (get_or s e 0) n m))
 
-  module _ (from e : ℕ) (i : from + until_either b c (drop from s) ≡ e + until_either b c (drop e s)) where
-    at_first : e < length s → either b c (get_or s e 0) ≡ true → e ≡ from + until_either b c (drop from s)
-    at_first h t = omega (arith, ap (until_either b c) (drop-next s e h) ∙ until-here b c (get_or s e 0) (drop (e + 1) s) t)
+-- ---- the search by chunks
 
-    pub find_first : e < length s → get_or s e 0 ≡ b → e ≡ from + until_either b c (drop from s)
-    find_first h q = at_first h (either_first b c (get_or s e 0) q)
+or-false : (t u : Bool) → (t || u) ≡ false → (t ≡ false) × (u ≡ false)
+or-false true u e = clash (cc e)
+or-false false u e = (refl, e)
 
-    pub find-second : e < length s → get_or s e 0 ≢ b → get_or s e 0 ≡ c → e ≡ from + until_either b c (drop from s)
-    find-second h n q = at_first h (either_second b c (get_or s e 0) n q)
+module _ (b c : ℕ) where
+  -- a chunk that has neither, before other bytes
+  none-in : (l m : List ℕ) (hit : Bool) → fold (λ t x. t || either b c x) hit l ≡ false
+      → (hit ≡ false) × (until_either b c (l ++ m) ≡ length l + until_either b c m)
+  none-in [] m hit e = (e, omega arith)
+  none-in (x ∷ xs) m hit e =
+      let rest = none-in xs m (hit || either b c x) e in
+      let here = or-false hit (either b c x) rest.0 in
+      (here.0, omega (arith, until-next b c x (xs ++ m) here.1, rest.1))
 
-    pub find-next : e < length s → get_or s e 0 ≢ b → get_or s e 0 ≢ c → from + until_either b c (drop from s) ≡ e + 1 + until_either b c (drop (e + 1) s)
-    find-next h n m =
-        omega (arith, ap (until_either b c) (drop-next s e h) ∙ until-next b c (get_or s e 0) (drop (e + 1) s) (either-none b c (get_or s e 0) n m))
-
-    pub find-last : length s ≤ e → e ≡ from + until_either b c (drop from s)
-    find-last h = omega (arith, ap (until_either b c) (drop_of_length-le s h) ∙ until_none b c)
+  -- past a chunk that has neither
+  pub chunk-skipped : (s chunk rest : List ℕ) (skipped : ℕ) → until_either b c s ≡ skipped + until_either b c (drop skipped s)
+      → drop skipped s ≡ chunk ++ rest → fold (λ t x. t || either b c x) false chunk ≡ false
+      → (until_either b c s ≡ skipped + length chunk + until_either b c (drop (skipped + length chunk) s)) × (drop (skipped + length chunk) s ≡ rest)
+  chunk-skipped s chunk rest skipped e q t =
+      let after : drop (skipped + length chunk) s ≡ rest =
+      sym (drop-drop (length chunk) skipped s) ∙ ap (drop (length chunk)) q ∙ drop_at chunk rest (length chunk) refl in
+      (omega (arith, e, ap (until_either b c) q ∙ (none-in chunk rest false t).1, ap (until_either b c) after), after)

@@ -1,14 +1,19 @@
 -- Laws of lists: one element further, runs, what all elements are.
-use Prim.Native.Nat.{ℕ, zero, suc, ◌+◌, ◌<◌}
+use Prim.Native.Nat.{ℕ, zero, suc, ◌+◌, ◌-◌, ◌<◌}
 use mathlib.Core.Path.{◌≡◌, refl, sym, ap, ◌∙◌}
 use mathlib.Core.List.{List, [], ◌∷◌, ◌++◌, append_assoc}
 use native.Mathlib.Numerals.{add-one}
-use lib.ListN.{length, get_or, drop, replicate, replicate-append-replicate}
-use lib.Seq.{drop-cons}
+use native.Mathlib.Omega.{arith}
+use lib.ListN.{length, get_or, take, drop, replicate, length-drop, replicate-append-replicate}
+use lib.Seq.{drop-cons, take_all}
 use Rattle.lists.specs.Bytes.{Every}
 
 pub drop-next : (l : List ℕ) (i : ℕ) → i < length l → drop i l ≡ get_or l i 0 ∷ drop (i + 1) l
 drop-next l i h = rw (add-one, drop-cons l i 0)
+
+-- all that stands from an index on
+pub drop-whole : (l : List ℕ) (i : ℕ) → take (length l - i) (drop i l) ≡ drop i l
+drop-whole l i = take_all (length l - i) (drop i l) (omega (arith, length-drop i l))
 
 pub replicate-two : (m n b : ℕ) (s : List ℕ) → replicate m b ++ (replicate n b ++ s) ≡ replicate (m + n) b ++ s
 replicate-two m n b s = sym (append_assoc (replicate m b) (replicate n b) s) ∙ ap (λ (r : List ℕ). r ++ s) (replicate-append-replicate m n b)

@@ -1,16 +1,18 @@
 -- Laws of `pasted`: what is written byte by byte or piece by piece, one piece after the other, is one piece.
 use mathlib.Core.Path.{◌≡◌, sym, ap, ◌∙◌, subst}
 use mathlib.Core.List.{List, [], ◌∷◌, ◌++◌, append_assoc, append-nil}
-use mathlib.Core.Logic.{◌⊎◌, inl, inr}
-use Prim.Native.Nat.{ℕ, suc, ◌+◌, ◌-◌, ◌<◌, ◌≤◌}
+use Prim.Native.Nat.{ℕ, suc, ◌+◌, ◌-◌, ◌<◌, ◌≤◌, min}
 use native.Mathlib.Nat.{add-zero, zero-add}
 use native.Mathlib.Numerals.{add-one}
 use native.Mathlib.Omega.{arith}
 use lib.ListN.{length, get_or, set, take, drop, length-append, length-drop, take-append-drop, drop_of_length-le}
-use lib.Seq.{drop-append-le, drop-drop, take_at, drop_at, set_split, length-take-le, get_or-drop, get_or-take, take-suc, take_all, append_snoc, take-take}
+use lib.Seq.{drop-append-le, drop-drop, take_at, drop_at, set_split, length-take-le, get_or-drop, take-suc, take_all, append_snoc, take-take}
 use borrow.Rule.Slice.PartMut.{put_mid, mid_of, mid_len, Post-is}
 use Rattle.lists.specs.Bytes.{AllBytes}
 use Rattle.lists.specs.Pasted.{pasted}
+use lib.Dec.{leb}
+use borrow.Author.Tests.{leb-true, leb-false}
+use Rattle.lists.proofs.Tests.{split}
 use Rattle.lists.proofs.ListLaws.{every_append}
 use Rattle.lists.proofs.ByteLaws.{every_take, every_drop}
 
@@ -55,10 +57,6 @@ module _ (d : List ℕ) (at : ℕ) (w : List ℕ) (room : at + length w ≤ leng
       ap (λ (k : ℕ). get_or (pasted d at w) k 0) (sym (add-zero j)) ∙ sym (get_or-drop j (pasted d at w) 0 0)
       ∙ ap (λ (l : List ℕ). get_or l 0 0) (drop-pasted-after j h) ∙ get_or-drop j d 0 0 ∙ ap (λ (k : ℕ). get_or d k 0) (add-zero j)
 
-  pub get_d-before : (j : ℕ) → j < at → get_or (pasted d at w) j 0 ≡ get_or d j 0
-  get_d-before j h =
-      sym (get_or-take at (pasted d at w) j 0 h) ∙ ap (λ (l : List ℕ). get_or l j 0) take-pasted-before ∙ get_or-take at d j 0 h
-
   -- a piece right after it
   pub pasted-more : (v : List ℕ) → at + length w + length v ≤ length d → pasted (pasted d at w) (at + length w) v ≡ pasted d at (w ++ v)
   unfolding pasted
@@ -93,20 +91,6 @@ set_after d at w i v e h =
     set-pasted (pasted d at w) i v (omega (arith, length-pasted d at w room))
     ∙ ap (λ (k : ℕ). pasted (pasted d at w) k (v ∷ [])) (sym e) ∙ pasted-more d at w room (v ∷ []) (omega arith)
 
--- one byte right before a piece
-pub set_before : (d : List ℕ) (at : ℕ) (w : List ℕ) (v : ℕ) → at + 1 + length w ≤ length d → set (pasted d (at + 1) w) at v ≡ pasted d at (v ∷ w)
-unfolding pasted
-set_before d at w v h =
-    let e : at + 1 + length w ≡ at + suc (length w) = omega arith in
-    set-pasted (pasted d (at + 1) w) at v (omega (arith, length-pasted d (at + 1) w h))
-    ∙ ap (λ (l : List ℕ). l ++ v ∷ [] ++ drop (at + 1) (pasted d (at + 1) w))
-    (sym (take-take at (at + 1) (pasted d (at + 1) w) (omega arith)) ∙ ap (take at) (take-pasted-before d (at + 1) w h)
-    ∙ take-take at (at + 1) d (omega arith))
-    ∙ ap (λ (l : List ℕ). take at d ++ v ∷ [] ++ l) (drop-pasted-at d (at + 1) w h)
-    ∙ append_snoc (take at d) v (w ++ drop (at + 1 + length w) d)
-    ∙ ap (λ (k : ℕ). take at d ++ v ∷ (w ++ drop k d)) e
-    ∙ sym (append_assoc (take at d) (v ∷ w) (drop (at + suc (length w)) d))
-
 -- a piece right before a piece
 pub pasted-under : (d : List ℕ) (at : ℕ) (w v : List ℕ) → at + length w + length v ≤ length d → pasted (pasted d (at + length w) v) at w ≡ pasted d at (w ++ v)
 unfolding pasted
@@ -140,12 +124,15 @@ copy_step d at w j i e h k =
     set_after d at (take j w) i (get_or w j 0) (omega (arith, length-take-le j w (omega arith))) k
     ∙ ap (pasted d at) (sym (take-suc w j 0 h) ∙ ap (λ (n : ℕ). take n w) (sym (add-one j)))
 
--- i bytes are as many as d and w both have
-pub copy-end : (d w : List ℕ) (i : ℕ) → i ≤ length d → (length d ≤ i) ⊎ (length w ≤ i) → pasted d 0 (take i w) ≡ pasted d 0 (take (length d) w)
-copy-end d w i h (inl k) =
-    let e : i ≡ length d = omega arith in
-    ap (λ (n : ℕ). pasted d 0 (take n w)) e
-copy-end d w i h (inr k) = ap (pasted d 0) (take_all i w k ∙ sym (take_all (length d) w (omega arith)))
+-- n bytes are as many as d and w both have
+pub copied : (d w : List ℕ) (n : ℕ) → n ≡ min (length w) (length d) → take n w ++ drop n d ≡ pasted d 0 (take (length d) w)
+copied d w n e =
+    let m : length (take n w) ≡ n = length-take-le n w (omega arith) in
+    let same : take n w ≡ take (length d) w =
+    split (leb (length d) (length w))
+    (λ t. ap (λ (k : ℕ). take k w) (omega (arith, leb-true (length d) (length w) t)))
+    (λ t. let h = leb-false (length d) (length w) t in take_all n w (omega arith) ∙ sym (take_all (length d) w (omega arith))) in
+    ap (λ (k : ℕ). take n w ++ drop k d) (sym m) ∙ sym (pasted-first d (take n w)) ∙ ap (pasted d 0) same
 
 -- w copied to the start of a lent part `&mut d[a..e]`
 pub part-copied : (d : List ℕ) (a e : ℕ) (w last : List ℕ) → a ≤ e → e ≤ length d → length w ≤ e - a

@@ -13,12 +13,10 @@ use Rattle.header.proofs.SumLaws.{name-part}
 use Rattle.header.proofs.RuleLaws.{name-read}
 use Rattle.partition_name.specs.Name.{matches_name}
 use Rattle.partitions.specs.declared.Partition.{Partition}
-use Rattle.partitions.specs.declared.Found.{Found}
-use Rattle.partitions.specs.declared.Found.TheVariants.{At, Refused}
-use Rattle.partitions.specs.declared.Cursor.{Cursor}
-use Rattle.partitions.specs.declared.Step.TheVariants.{Next}
+use Rattle.partitions.specs.Find.{Found, matches, first_match, find_by, only_unless, only_match, only_by}
+use Rattle.std.specs.Prelude.{Ok, Err, Some}
+use Rattle.partitions.specs.declared.Step.{Step}
 use Rattle.partitions.specs.Walk.{Walk, covered, broken, allowed_length, step_at, walk}
-use Rattle.partitions.specs.Find.{matches, first_match, find_by, only_unless, only_match, only_by}
 use Rattle.partitions.proofs.WalkLaws.{rest, walk-rest, walk_refused, on_walk}
 use Rattle.partitions.proofs.LoopLaws.{next-goes}
 use Rattle.partitions.proofs.FoundLaws.{matches-signed, matches-other, find-walk, find-covered, find-broken, match-nothing, match-head, match-tail}
@@ -34,8 +32,8 @@ header-name image at h name r e =
     e ∙ ap (λ (l : List ℕ). matches_name l name) (name-part image at h ∙ sym (name-read image at))
 
 -- and it is whole where the walk goes on
-pub whole-header : (image : List ℕ) (at : ℕ) (p : Partition) (c : Cursor) → step_at image at ≡ Next p c → p.offset + 16 ≤ length image
-whole-header image at p c e = let g = next-goes image at p c e in omega (arith, g.here, g.some, g.past, g.inside)
+pub whole-header : (image : List ℕ) (at : ℕ) (s : Step) → step_at image at ≡ Ok (Some s) → s.here.offset + 16 ≤ length image
+whole-header image at s e = let g = next-goes image at s e in omega (arith, g.here, g.some, g.past, g.inside)
 
 -- after one more partition, which matches or not
 abbrev matched_next : Bool → Matched → Bool → Partition → Matched
@@ -55,13 +53,13 @@ abbrev by_partitions : Bool → List ℕ → ℕ → List ℕ → List Partition
 by_partitions only image signature name ps = cond only (only_match image signature name ps) (first_match image signature name ps)
 
 module _ (only : Bool) (image : List ℕ) (signature : ℕ) (name : List ℕ) where
-  seek-second : (at : ℕ) (ps : List Partition) → seek_name only image signature name (Second at) ps ≡ Refused (RepeatedPartition at)
+  seek-second : (at : ℕ) (ps : List Partition) → seek_name only image signature name (Second at) ps ≡ Err (RepeatedPartition at)
   seek-second at [] = refl
   seek-second at (p ∷ ps) = seek-second at ps
 
 -- one has matched: it is found, unless only one may match and another follows
 module _ (image : List ℕ) (signature : ℕ) (name : List ℕ) (q : Partition) where
-  seek-first : (ps : List Partition) → seek_name false image signature name (One q) ps ≡ At q
+  seek-first : (ps : List Partition) → seek_name false image signature name (One q) ps ≡ Ok q
   seek-first [] = refl
   seek-first (p ∷ ps) = seek-first ps
 
@@ -94,22 +92,22 @@ module _ (image : List ℕ) (signature : ℕ) (name : List ℕ) where
   seek-covered true ps = only-covered image signature name ps
   seek-covered false ps = find-covered image signature name ps
 
-  seek-broken : (only : Bool) (e : Error) → by_walk only image signature name (broken e) ≡ Refused e
+  seek-broken : (only : Bool) (e : Error) → by_walk only image signature name (broken e) ≡ Err e
   seek-broken true e = only-broken image signature name e
   seek-broken false e = find-broken image signature name e
 
 module _ (only : Bool) (image : List ℕ) (signature : ℕ) (name : List ℕ) where
-  seek-on : (w : Walk) → on_walk (seek_name only image signature name None) Refused w ≡ by_walk only image signature name w
+  seek-on : (w : Walk) → on_walk (seek_name only image signature name None) Err w ≡ by_walk only image signature name w
   seek-on (covered ps) = none_yet image signature name only ps ∙ sym (seek-covered image signature name only ps)
   seek-on (broken e) = sym (seek-broken image signature name only e)
 
-  pub seek-refused : allowed_length (length image) ≡ false → Refused ImageLength ≡ seek_of only image signature name
+  pub seek-refused : allowed_length (length image) ≡ false → Err ImageLength ≡ seek_of only image signature name
   seek-refused a =
       sym (seek-walk image signature name only ∙ ap (by_walk only image signature name) (walk_refused image a)
       ∙ seek-broken image signature name only ImageLength)
 
   pub seek-start : allowed_length (length image) ≡ true
-      → on_walk (seek_name only image signature name None) Refused (rest image 0) ≡ seek_of only image signature name
+      → on_walk (seek_name only image signature name None) Err (rest image 0) ≡ seek_of only image signature name
   seek-start a =
       seek-on (rest image 0) ∙ sym (seek-walk image signature name only ∙ ap (by_walk only image signature name) (walk-rest image a))
 

@@ -1,13 +1,11 @@
 -- For the loop over the partitions: those that have matched so far, and what it answers.
-use Rattle.std.specs.Prelude.{ℕ, Bool, true, false, cond, List}
+use Rattle.std.specs.Prelude.{ℕ, Bool, true, false, cond, List, Result, Ok, Err}
+use Rattle.errors.specs.declared.Error.{Error}
 use Rattle.errors.specs.declared.Error.TheVariants.{NoPartition, RepeatedPartition}
 use Rattle.partitions.specs.declared.Partition.{Partition}
-use Rattle.partitions.specs.declared.Found.{Found}
-use Rattle.partitions.specs.declared.Found.TheVariants.{At, Refused}
-use Rattle.partitions.specs.Find.{find_of, only_of}
+use Rattle.partitions.specs.Find.{Found, find_of, only_of}
 use Rattle.lookup.specs.declared.Matched.{Matched}
 use Rattle.lookup.specs.declared.Matched.TheVariants.{None, One, Second}
-use Rattle.lookup.specs.declared.Searched.{Searched}
 
 -- whether one more match counts; only: whether only one may match
 abbrev pub one_more_counts : Bool → Matched → Bool
@@ -23,14 +21,14 @@ with_match (Second at) p = Second at
 
 -- what is found, after all partitions
 abbrev pub matched_found : Matched → Found
-matched_found None = Refused NoPartition
-matched_found (One p) = At p
-matched_found (Second at) = Refused (RepeatedPartition at)
+matched_found None = Err NoPartition
+matched_found (One p) = Ok p
+matched_found (Second at) = Err (RepeatedPartition at)
 
 -- what is found by a search
-abbrev pub searched_found : Searched → Found
-searched_found (Searched.All matched) = matched_found matched
-searched_found (Searched.Refused e) = Refused e
+abbrev pub searched_found : Result Matched Error → Found
+searched_found (Ok matched) = matched_found matched
+searched_found (Err e) = Err e
 
 -- the only partition of a signature and a name, or the first
 abbrev pub seek_of : Bool → List ℕ → ℕ → List ℕ → Found

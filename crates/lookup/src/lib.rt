@@ -4,13 +4,13 @@
 ghost use Rattle.std.specs.Prelude.{◌≡◌, ◌+◌, ◌≤◌, length as len};
 ghost use Rattle.header.specs.Header.{header_at};
 ghost use Rattle.partition_name.specs.Name.{matches_name};
-ghost use Rattle.partitions.specs.Find.{find_of, only_of, area_of};
-ghost use Rattle.partitions.specs.Views.{find_answer};
-ghost use Rattle.lookup.specs.Helpers.{one_more_counts, with_match, searched_found, seek_of};
+ghost use Rattle.std.specs.Result.{result_map_both};
+ghost use Rattle.partitions.specs.Find.{find_of, only_of, area_found};
+ghost use Rattle.lookup.specs.Helpers.{one_more_counts, with_match, matched_found, searched_found, seek_of};
 
 use errors::Error;
 use header::Header;
-use partitions::{Cursor, Found, Partition, Step};
+use partitions::{Cursor, Partition};
 
 // Whether the name of a whole header at an offset matches this one; it is compared where it stands.
 fn has_name(image: &[u8], at: usize, name: &[u8]) -> bool
@@ -32,116 +32,91 @@ enum Matched {
     Second { at: usize },
 }
 
-// What a search has met: the matches among all partitions, or why the image is refused.
-#[derive(Clone, Copy)]
-enum Searched {
-    All(Matched),
-    Refused(Error),
-}
+impl Matched {
+    // Whether one more match counts: the first does, and a second one where only one may match.
+    fn counts_one_more(self, only: bool) -> bool
+        ensures { result ≡ one_more_counts only self }
+    {
+        match self {
+            Matched::None => true,
+            Matched::One(_) => only,
+            Matched::Second { .. } => false,
+        }
+    }
 
-// Whether one more match counts: the first does, and a second one where only one may match.
-fn one_more_counts(matched: Matched, only: bool) -> bool
-    ensures { result ≡ one_more_counts only matched }
-{
-    match matched {
-        Matched::None => true,
-        Matched::One(_) => only,
-        Matched::Second { at: _ } => false,
+    // The partitions that have matched, with one more.
+    fn with(self, p: Partition) -> Self
+        ensures { result ≡ with_match self p }
+    {
+        match self {
+            Matched::None => Matched::One(p),
+            Matched::One(_) => Matched::Second { at: p.offset },
+            Matched::Second { at } => Matched::Second { at },
+        }
+    }
+
+    // What is found where these are all that match.
+    fn found(self) -> Result<Partition, Error>
+        ensures { result ≡ matched_found self }
+    {
+        match self {
+            Matched::None => Err(Error::NoPartition),
+            Matched::One(p) => Ok(p),
+            Matched::Second { at } => Err(Error::RepeatedPartition { at }),
+        }
     }
 }
 
-// The partitions that have matched, with one more.
-fn with_match(matched: Matched, p: Partition) -> Matched
-    ensures { result ≡ with_match matched p }
-{
-    match matched {
-        Matched::None => Matched::One(p),
-        Matched::One(_first) => Matched::Second { at: p.offset },
-        Matched::Second { at } => Matched::Second { at },
-    }
-}
-
-// What is found by a search.
-fn searched_found(searched: Searched) -> Found
-    ensures { result ≡ searched_found searched }
-{
-    match searched {
-        Searched::All(matched) => match matched {
-            Matched::None => Found::Refused(Error::NoPartition),
-            Matched::One(p) => Found::At(p),
-            Matched::Second { at } => Found::Refused(Error::RepeatedPartition { at }),
-        },
-        Searched::Refused(e) => Found::Refused(e),
-    }
-}
-
-// A search for this signature and a name that matches this one: for the first partition, or for the only one.
-fn seek(image: &[u8], signature: u8, name: &[u8], only: bool) -> Searched
+// A search for this signature and a name that matches this one, for the first partition or for the only one: what matches.
+// A closure for whether one more match counts would say no more than the flag `only`.
+fn seek(image: &[u8], signature: u8, name: &[u8], only: bool) -> Result<Matched, Error>
     ensures { searched_found result ≡ seek_of only image.now signature name.now }
 {
     if !partitions::allowed_length(image.len()) {
-        return Searched::Refused(Error::ImageLength);
+        return Err(Error::ImageLength);
     }
     let mut cursor = Cursor::start();
     let mut matched = Matched::None;
+    // The form of a walk that the paper names.
     loop {
-        let step = cursor.step(image);
-        match step {
-            Step::Next(p, next) => {
+        match cursor.step(image) {
+            Ok(Some(step)) => {
+                let p = step.here;
+                cursor = step.next;
                 if Header::signature_at(image, p.offset) == signature
-                    && one_more_counts(matched, only)
+                    && matched.counts_one_more(only)
                     && has_name(image, p.offset, name)
                 {
-                    matched = with_match(matched, p);
+                    matched = matched.with(p);
                 }
-                cursor = next;
             }
-            Step::End => break Searched::All(matched),
-            Step::Broken(e) => break Searched::Refused(e),
+            Ok(None) => break Ok(matched),
+            Err(e) => break Err(e),
         }
     }
 }
 
 // The first partition in image order that has this signature and a name that matches this one.
-pub fn find(image: &[u8], signature: u8, name: &[u8]) -> Found
+pub fn find(image: &[u8], signature: u8, name: &[u8]) -> Result<Partition, Error>
     ensures { result ≡ find_of image.now signature name.now }
 {
-    searched_found(seek(image, signature, name, false))
+    seek(image, signature, name, false)?.found()
 }
 
 // The only partition that has this signature and a name that matches this one; where a second one has, it is refused there.
-pub fn find_only(image: &[u8], signature: u8, name: &[u8]) -> Found
+pub fn find_only(image: &[u8], signature: u8, name: &[u8]) -> Result<Partition, Error>
     ensures { result ≡ only_of image.now signature name.now }
 {
-    searched_found(seek(image, signature, name, true))
+    seek(image, signature, name, true)?.found()
 }
 
-// The data area of that partition as a part of the image, empty where it is refused; the code and the offset are stored.
-pub fn area<'a>(
-    image: &'a [u8],
-    signature: u8,
-    name: &[u8],
-    code: &mut u32,
-    offset: &mut usize,
-) -> &'a [u8]
-    ensures part { result.now ≡ area_of image.now (find_of image.now signature name.now) }
-    ensures stored { code.new ≡ (find_answer (find_of image.now signature name.now)).code }
-    ensures place { offset.new ≡ (find_answer (find_of image.now signature name.now)).offset }
+// The data area of the partition that `find` answers, as a part of the image.
+pub fn area<'a>(image: &'a [u8], signature: u8, name: &[u8]) -> Result<&'a [u8], Error>
+    ensures { result_map_both (λ part. part.now) (λ e. e) result ≡ area_found image.now (find_of image.now signature name.now) }
 {
-    let found = find(image, signature, name);
-    match found {
-        Found::At(p) => {
-            *code = 0;
-            *offset = 0;
-            let bytes = p.blocks.bytes();
-            let start = p.offset + Header::SIZE;
-            let end = p.offset + bytes.0;
-            &image[start..end]
-        }
-        Found::Refused(e) => {
-            *code = e.code();
-            *offset = e.offset();
-            &image[..0]
-        }
-    }
+    let p = find(image, signature, name)?;
+    let bytes = p.blocks.bytes();
+    let start = p.offset + Header::SIZE;
+    let end = p.offset + bytes.0;
+    Ok(&image[start..end])
 }

@@ -10,10 +10,13 @@ use lib.Dec.{leb, ltb, eqb}
 use borrow.Author.Tests.{eqb-true, eqb-false, ne_eqb, ltb-true, ltb-false, lt-ltb, le-ltb, leb-true, le-leb}
 use Rattle.lists.specs.Bytes.{Every}
 use Rattle.lists.proofs.Tests.{split, clash}
-use Rattle.names.specs.declared.NameCheck.{NameCheck}
-use Rattle.names.specs.declared.NameCheck.TheVariants.{Good, Wrong}
-use Rattle.names.specs.Name.{within, name_byte, name_check_from, name_check}
+use Rattle.std.specs.Prelude.{Ok, Err}
+use Rattle.names.specs.Name.{within, name_byte, NameCheck, good, wrong, on_check, name_check_from, name_check}
 use Rattle.names.specs.Rules.{NameByte, NameRule, FirstWrong, empty, byte}
+
+-- two checks that find a fault at an index find it at the same one
+pub same_at : {i j : ℕ} → wrong i ≡ wrong j → i ≡ j
+same_at e = ap (λ (c : NameCheck). on_check c 0 (λ at. at)) e
 
 not_so : {A : Type 0} → false ≡ true → A
 not_so e = clash (cc)
@@ -77,11 +80,11 @@ sixty-one = refl
 
 -- ---- one step of a check
 
-check-none : (i : ℕ) → i ≢ 0 → name_check_from i [] ≡ Good
+check-none : (i : ℕ) → i ≢ 0 → name_check_from i [] ≡ good
 unfolding name_check_from
 check-none i h = rw (ne_eqb i 0 h)
 
-check-long : (i b : ℕ) (bs : List ℕ) → 31 ≤ i → name_check_from i (b ∷ bs) ≡ Wrong i
+check-long : (i b : ℕ) (bs : List ℕ) → 31 ≤ i → name_check_from i (b ∷ bs) ≡ wrong i
 unfolding name_check_from
 check-long i b bs h = rw (le-ltb i 31 h)
 
@@ -89,13 +92,13 @@ check-next : (i b : ℕ) (bs : List ℕ) → i < 31 → name_byte b ≡ true →
 unfolding name_check_from
 check-next i b bs h e = rw (lt-ltb i 31 h, e)
 
-check-refused : (i b : ℕ) (bs : List ℕ) → name_byte b ≡ false → name_check_from i (b ∷ bs) ≡ Wrong i
+check-refused : (i b : ℕ) (bs : List ℕ) → name_byte b ≡ false → name_check_from i (b ∷ bs) ≡ wrong i
 unfolding name_check_from
 check-refused i b bs e = split (ltb i 31) (λ t. rw (t, e)) (λ t. rw t)
 
 -- ---- the name that is good
 
-good-from : (i : ℕ) (bs : List ℕ) → i ≤ 31 → 1 ≤ i + length bs → i + length bs ≤ 31 → Every NameByte bs → name_check_from i bs ≡ Good
+good-from : (i : ℕ) (bs : List ℕ) → i ≤ 31 → 1 ≤ i + length bs → i + length bs ≤ 31 → Every NameByte bs → name_check_from i bs ≡ good
 good-from i [] h lo hi r = check-none i (omega arith)
 good-from i (b ∷ bs) h lo hi r =
     check-next i b bs (omega arith) (rule-byte b r.0) ∙ good-from (i + 1) bs (omega arith) (omega arith) (omega arith) r.1
@@ -106,7 +109,7 @@ record Kept (i : ℕ) (bs : List ℕ) : Type 0 where
   fits : i + length bs ≤ 31
   all : Every NameByte bs
 
-kept_from : (i : ℕ) (bs : List ℕ) → i ≤ 31 → name_check_from i bs ≡ Good → Kept i bs
+kept_from : (i : ℕ) (bs : List ℕ) → i ≤ 31 → name_check_from i bs ≡ good → Kept i bs
 unfolding name_check_from
 kept_from i [] h e = split (eqb i 0) (λ t. clash (cc)) (λ t. record { some = omega (arith, eqb-false i 0 t); fits = omega arith; all = tt })
 kept_from i (b ∷ bs) h e =
@@ -118,7 +121,7 @@ kept_from i (b ∷ bs) h e =
     (λ t. clash (cc))
 
 -- A NAME IS GOOD exactly when it keeps the rule
-pub check-good-exactly : (name : List ℕ) → (name_check name ≡ Good) ↔ NameRule name
+pub check-good-exactly : (name : List ℕ) → (name_check name ≡ good) ↔ NameRule name
 unfolding name_check
 check-good-exactly name = (
   λ e. let k = kept_from 0 name (omega arith) e in record { least = omega (arith, k.some); most = omega (arith, k.fits); each = k.all },
@@ -126,12 +129,12 @@ check-good-exactly name = (
 )
 
 -- a case split on a check that keeps the equation
-pub split-check : {A : Type 0} (c : NameCheck) → (c ≡ Good → A) → ((at : ℕ) → c ≡ Wrong at → A) → A
-split-check Good f g = f refl
-split-check (Wrong at) f g = g at refl
+pub split-check : {A : Type 0} (c : NameCheck) → (c ≡ good → A) → ((at : ℕ) → c ≡ wrong at → A) → A
+split-check (Ok _) f g = f refl
+split-check (Err fault) f g = g fault.at refl
 
 -- a check that finds something wrong is of a name that breaks the rule
-check-wrong : {name : List ℕ} {at : ℕ} → name_check name ≡ Wrong at → ¬ (NameRule name)
+check-wrong : {name : List ℕ} {at : ℕ} → name_check name ≡ wrong at → ¬ (NameRule name)
 check-wrong {name} e r = clash (cc ((check-good-exactly name).1 r))
 
 -- ---- the name that is wrong
@@ -143,7 +146,7 @@ record WrongAt (j : ℕ) (bs : List ℕ) (k : ℕ) : Type 0 where
   before : (m : ℕ) → m < k → NameByte (get_or bs m 0)
   there : (¬ (NameByte (get_or bs k 0))) ⊎ (j + k ≡ 31)
 
-wrong-there : (j b : ℕ) (bs : List ℕ) → (¬ (NameByte b)) ⊎ (j + 0 ≡ 31) → name_check_from j (b ∷ bs) ≡ Wrong j
+wrong-there : (j b : ℕ) (bs : List ℕ) → (¬ (NameByte b)) ⊎ (j + 0 ≡ 31) → name_check_from j (b ∷ bs) ≡ wrong j
 wrong-there j b bs (inl n) = check-refused j b bs (not_byte b n)
 wrong-there j b bs (inr e) = check-long j b bs (omega arith)
 
@@ -151,9 +154,9 @@ there-as : (b m n : ℕ) → m ≡ n → (¬ (NameByte b)) ⊎ (m ≡ 31) → (�
 there-as b m n e (inl q) = inl q
 there-as b m n e (inr q) = inr (omega arith)
 
-wrong-from : (j : ℕ) (bs : List ℕ) (k : ℕ) → WrongAt j bs k → name_check_from j bs ≡ Wrong (j + k)
+wrong-from : (j : ℕ) (bs : List ℕ) (k : ℕ) → WrongAt j bs k → name_check_from j bs ≡ wrong (j + k)
 wrong-from j [] k w = absurd (omega (arith, w.inside))
-wrong-from j (b ∷ bs) zero w = let e : j ≡ j + 0 = omega arith in wrong-there j b bs w.there ∙ ap Wrong e
+wrong-from j (b ∷ bs) zero w = let e : j ≡ j + 0 = omega arith in wrong-there j b bs w.there ∙ ap wrong e
 wrong-from j (b ∷ bs) (suc k) w =
     let e : j + 1 + k ≡ j + suc k = omega arith in
     let next : WrongAt (j + 1) bs k = record {
@@ -162,7 +165,7 @@ wrong-from j (b ∷ bs) (suc k) w =
       before = λ m h. w.before (suc m) (omega arith);
       there = there-as (get_or bs k 0) (j + suc k) (j + 1 + k) (omega arith) w.there;
     } in
-    check-next j b bs (omega (arith, w.most)) (rule-byte b (w.before 0 (omega arith))) ∙ wrong-from (j + 1) bs k next ∙ ap Wrong e
+    check-next j b bs (omega (arith, w.most)) (rule-byte b (w.before 0 (omega arith))) ∙ wrong-from (j + 1) bs k next ∙ ap wrong e
 
 -- the byte of index i is the first wrong one, or there is none and i is 0
 data Breaks (j : ℕ) (bs : List ℕ) (i : ℕ) : Type 0 where
@@ -183,16 +186,16 @@ breaks-next j b bs i n (some k e w) = some (suc k) (omega arith) (record {
   there = there-as (get_or bs k 0) (j + 1 + k) (j + suc k) (omega arith) w.there;
 })
 
-breaks-here : (j b : ℕ) (bs : List ℕ) (i : ℕ) → j ≤ 31 → Wrong j ≡ Wrong i → (¬ (NameByte b)) ⊎ (j + 0 ≡ 31) → Breaks j (b ∷ bs) i
+breaks-here : (j b : ℕ) (bs : List ℕ) (i : ℕ) → j ≤ 31 → wrong j ≡ wrong i → (¬ (NameByte b)) ⊎ (j + 0 ≡ 31) → Breaks j (b ∷ bs) i
 breaks-here j b bs i h e q =
-    let f : j ≡ i = cc in
+    let f : j ≡ i = same_at e in
     some 0 (omega arith) (record { inside = omega arith; most = omega arith; before = λ m l. absurd (omega arith); there = q })
 
-breaks-from : (j : ℕ) (bs : List ℕ) (i : ℕ) → j ≤ 31 → name_check_from j bs ≡ Wrong i → Breaks j bs i
+breaks-from : (j : ℕ) (bs : List ℕ) (i : ℕ) → j ≤ 31 → name_check_from j bs ≡ wrong i → Breaks j bs i
 unfolding name_check_from
 breaks-from j [] i h e =
     split (eqb j 0)
-    (λ t. let f : Wrong 0 ≡ Wrong i = cc in let g : 0 ≡ i = cc in none (eqb-true j 0 t) refl (sym g))
+    (λ t. let f : wrong 0 ≡ wrong i = cc in let g : 0 ≡ i = same_at f in none (eqb-true j 0 t) refl (sym g))
     (λ t. clash (cc))
 breaks-from j (b ∷ bs) i h e =
     split (ltb j 31)
@@ -209,15 +212,15 @@ first-wrong name i (some k e w) =
     subst (FirstWrong name) q
     (byte w.inside (omega (arith, w.most)) w.before (there-as (get_or name k 0) (0 + k) k (omega arith) w.there))
 
-wrong_first : (name : List ℕ) (i : ℕ) → FirstWrong name i → name_check_from 0 name ≡ Wrong i
+wrong_first : (name : List ℕ) (i : ℕ) → FirstWrong name i → name_check_from 0 name ≡ wrong i
 unfolding name_check_from
 wrong_first name i (empty e f) = rw (e, f)
 wrong_first name i (byte h l before q) =
     let e : 0 + i ≡ i = omega arith in
-    wrong-from 0 name i (record { inside = h; most = omega arith; before = before; there = there-as (get_or name i 0) i (0 + i) (omega arith) q }) ∙ ap Wrong e
+    wrong-from 0 name i (record { inside = h; most = omega arith; before = before; there = there-as (get_or name i 0) i (0 + i) (omega arith) q }) ∙ ap wrong e
 
 -- A NAME IS WRONG AT AN INDEX exactly when it breaks the rule there first
-pub check-wrong-exactly : (name : List ℕ) (i : ℕ) → (name_check name ≡ Wrong i) ↔ FirstWrong name i
+pub check-wrong-exactly : (name : List ℕ) (i : ℕ) → (name_check name ≡ wrong i) ↔ FirstWrong name i
 unfolding name_check
 check-wrong-exactly name i = (λ e. first-wrong name i (breaks-from 0 name i (omega arith) e), wrong_first name i)
 
@@ -231,8 +234,7 @@ wrong-somewhere name = (
 -- AND AT ONE INDEX
 pub wrong-at-one : {name : List ℕ} {i j : ℕ} → FirstWrong name i → FirstWrong name j → i ≡ j
 wrong-at-one {name} {i} {j} v w =
-    let e : Wrong i ≡ Wrong j = sym ((check-wrong-exactly name i).1 v) ∙ (check-wrong-exactly name j).1 w in
-    cc
+    same_at (sym ((check-wrong-exactly name i).1 v) ∙ (check-wrong-exactly name j).1 w)
 
 pub wrong-most : {name : List ℕ} {i : ℕ} → FirstWrong name i → i ≤ 31
 wrong-most (empty e f) = omega arith

@@ -1,21 +1,30 @@
 // The rule for a variable's name: 1 to 31 bytes, each one marked in a table.
 #![tactic(auto)]
 
-ghost use Rattle.std.specs.Prelude.{◌≡◌, ◌+◌, ◌<◌, drop};
+ghost use Rattle.std.specs.Prelude.{◌≡◌, ◌+◌, not, drop, position};
+ghost use Rattle.errors.specs.declared.Error.TheVariants.{BadName};
 ghost use Rattle.names.specs.Name.{name_byte, name_check};
 ghost use Rattle.names.specs.Helpers.{allowed_ahead, check_by_allowed};
 
-// What the check of a name finds.
+use errors::Error;
+
+// Where a name breaks the rule first.
 #[derive(Clone, Copy)]
-pub enum NameCheck {
-    // The name keeps the rule.
-    Good,
+pub struct NameFault {
     // The index of the first byte that is not allowed, or of the 32nd byte; 0 for an empty name.
-    Wrong { at: usize },
+    pub at: usize,
+}
+
+impl From<NameFault> for Error {
+    ghost from_gives = { λ fault error. error ≡ BadName fault.at };
+
+    fn from(fault: NameFault) -> Self {
+        Error::BadName { at: fault.at }
+    }
 }
 
 // A mark for each byte: 1 where a name may hold it.
-const MARKS: [u8; 256] = [
+static MARKS: [u8; 256] = [
     0, // 0x00
     0, 0, 0, 0, 0, 0, 0, 0, 0, 0, 0, 0, 0, 0, 0, 0, 0, 0, 0, 0, 0, 0, 0, 0, 0, 0, 0, 0, 0, 0, 0, 0,
     1, // 0x21, `!`
@@ -38,55 +47,48 @@ const MARKS: [u8; 256] = [
     0, 0, 0, 0, 0, 0, 0, 0, 0, 0, 0, 0, 0, 0, 0, 0, 0, 0, 0, 0, 0, 0, 0, 0, 0, 0, 0, 0, 0, 0, 0, 0, // 0xFF
 ];
 
-// A byte as an index.
-fn wide(b: u8) -> usize
-    ensures { (result ≡ b) × (result < 256) }
-{
-    b as usize
-}
-
 // Whether a name may hold the byte.
 pub fn name_byte(b: u8) -> bool
     ensures { result ≡ name_byte b }
 {
-    let i = b as usize;
-    MARKS[i] == 1
+    MARKS[usize::from(b)] == 1
+}
+
+// The index of the first byte that a name may not hold.
+fn first_wrong(s: &[u8]) -> Option<usize>
+    ensures { result ≡ position (λ b. not (name_byte b)) s.now }
+{
+    s.iter().position(|b| !name_byte(*b))
 }
 
 // The offset of the first byte from `from` on that a name may not hold, or the end.
 pub fn name_end(s: &[u8], from: usize) -> usize
     ensures { result ≡ from + allowed_ahead (drop from s.now) }
 {
-    let marks = MARKS; // one copy of the table serves all bytes
-    let mut i = from;
-    while i < s.len() {
-        let b = wide(s[i]);
-        if marks[b] != 1 {
-            return i;
-        }
-        i += 1;
+    match s.get(from..) {
+        None => from,
+        Some(rest) => from + first_wrong(rest).unwrap_or(rest.len()),
     }
-    i
 }
 
-// The check of a name by the allowed bytes at its start; `whole`: it has no other byte.
-pub fn check_by_allowed(allowed: usize, whole: bool) -> NameCheck
+// The check of a name by the allowed bytes at its start; `whole`: it has no other byte, which no number of bytes tells.
+pub fn check_by_allowed(allowed: usize, whole: bool) -> Result<(), NameFault>
     ensures { result ≡ check_by_allowed allowed whole }
 {
     if 31 < allowed {
-        return NameCheck::Wrong { at: 31 };
+        return Err(NameFault { at: 31 });
     }
     if allowed == 0 {
-        return NameCheck::Wrong { at: 0 };
+        return Err(NameFault { at: 0 });
     }
     if whole {
-        return NameCheck::Good;
+        return Ok(());
     }
-    NameCheck::Wrong { at: allowed }
+    Err(NameFault { at: allowed })
 }
 
 // Whether a name keeps the rule, and if not, where it breaks it first.
-pub fn check(name: &[u8]) -> NameCheck
+pub fn check(name: &[u8]) -> Result<(), NameFault>
     ensures { result ≡ name_check name.now }
 {
     let end = name_end(name, 0);

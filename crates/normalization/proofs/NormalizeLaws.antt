@@ -13,42 +13,49 @@ use Rattle.lists.specs.Helpers.{moved_bytes}
 use Rattle.lists.proofs.Tests.{clash}
 use Rattle.lists.proofs.PastedLaws.{length-pasted, pasted-none, pasted-last, drop-pasted-after, pasted-more, set_after}
 use Rattle.lists.proofs.MoveLaws.{moved_inside, part_filled}
-use Rattle.values.specs.declared.Written.{Written}
-use Rattle.values.specs.declared.Written.TheVariants.{Length, NoRoom}
+use Rattle.std.specs.Prelude.{Option, Some, None, Result, Ok, Err, is_some}
 use Rattle.values.specs.Value.{spelled, decode, encode}
 use Rattle.values.specs.Helpers.{part, recoded, recoded_of, recoded_in}
 use Rattle.encoding.proofs.RecodeLaws.{Recodable, recoded-taken, recoded-short}
 use Rattle.errors.specs.declared.Error.{Error}
-use Rattle.pairs.specs.declared.PairAt.{PairAt}
-use Rattle.pairs.specs.declared.Scanned.TheVariants as Scanned
+use Rattle.pairs.specs.declared.Scanned.{Scanned}
 use Rattle.pairs.specs.declared.Place.{Place}
-use Rattle.pairs.specs.Scan.{pair, stand_at}
+use Rattle.pairs.specs.Scan.{pair, finish, stand_at}
 use Rattle.pairs.specs.Area.{Pair, pair_bytes, pairs_bytes, Parse, parsed, parse}
 use Rattle.variables.specs.Edits.{canonical_pair, normalize_pairs}
 use Rattle.variables.specs.Calls.{normalize, done, refused, Outcome, call_area}
 use Rattle.variables.proofs.CallLaws.{check-normalize, call-parsed, normalize-done as normalize-outcome}
-use Rattle.pairs.specs.Helpers.{place_of, scanned_of}
+use Rattle.pairs.specs.Helpers.{placed, place_of, scanned_of}
 use Rattle.normalization.specs.Helpers.{PairMoves, pair_recoded, Parses, normalized_bytes}
 use Rattle.pairs.proofs.ScanLaws.{a_pair, stand-end, standing-stand}
 use Rattle.pairs.proofs.ParseLaws.{Good, none, more, pair-front, area-read}
 use Rattle.variables.proofs.EditLaws.{area-zeros}
-use Rattle.pairs.proofs.PairPlaces.{drop_past, past-inside}
-use Rattle.variables.proofs.CallPlaces.{scanned-pairs, scan-faulty}
+use Rattle.pairs.proofs.PairPlaces.{drop_past, past-inside, NoPair, stands_at}
+use Rattle.variables.proofs.CallPlaces.{scanned-pairs, scan-faulty, edit-refused}
 
 -- ---- one pair: d is the area before, d₁ with the name moved, d₂ with the value made canonical
 
 -- the canonical value, m bytes, and its 0x00 end no later than the stored value does
-pub record Shorter (d : List ℕ) (at q e to m : ℕ) (d₂ : List ℕ) : Type 0 where
-  pub ends : to + (q + 1 - at) + m ≤ e
+pub record Shorter (d : List ℕ) (p : Place) (to m : ℕ) (d₂ : List ℕ) : Type 0 where
+  pub ends : to + (p.equals + 1 - p.start) + m ≤ p.end
   pub long : length d₂ ≡ length d
 
 -- the pair is made canonical, and r is the offset after it
-pub record PairMade (d : List ℕ) (at q e to r : ℕ) (d₃ : List ℕ) : Type 0 where
-  pub low : r ≤ e + 1
-  pub past : r ≡ to + length (pair_recoded d at q e)
-  pub bytes : d₃ ≡ pasted d to (pair_recoded d at q e)
+pub record PairMade (d : List ℕ) (p : Place) (to r : ℕ) (d₃ : List ℕ) : Type 0 where
+  pub low : r ≤ p.end + 1
+  pub past : r ≡ to + length (pair_recoded d p)
+  pub bytes : d₃ ≡ pasted d to (pair_recoded d p)
 
-module _ {d : List ℕ} {at q e to : ℕ} (h : PairMoves d at q e to) (d₁ : List ℕ) (e₁ : d₁ ≡ moved_bytes d at to (q + 1 - at)) where
+module _ {d : List ℕ} {p : Place} {to : ℕ} (h : PairMoves d p to) (d₁ : List ℕ) (e₁ : d₁ ≡ moved_bytes d p.start to (p.equals + 1 - p.start)) where
+  abbrev at : ℕ
+  at = p.start
+
+  abbrev q : ℕ
+  q = p.equals
+
+  abbrev e : ℕ
+  e = p.end
+
   head-long : length (take (q + 1 - at) (drop at d)) ≡ q + 1 - at
   head-long = length-take-le (q + 1 - at) (drop at d) (omega (arith, length-drop at d, h.order, h.value, h.inside))
 
@@ -90,19 +97,19 @@ module _ {d : List ℕ} {at q e to : ℕ} (h : PairMoves d at q e to) (d₁ : Li
   abbrev At : ℕ
   At = to + (q + 1 - at)
 
-  told : (Length (At + length (recoded d₁ (q + 1) e) - At) ≡ recoded_of d₁ (q + 1) e At)
+  told : (Some (At + length (recoded d₁ (q + 1) e) - At) ≡ recoded_of d₁ (q + 1) e At)
       × (pasted d₁ At (recoded d₁ (q + 1) e) ≡ recoded_in d₁ (q + 1) e At)
   told = recoded-taken d₁ (q + 1) e At moved-recodable {e = At + length (recoded d₁ (q + 1) e)} refl refl
 
   -- it is not refused
-  pub pair-recodes : (r : Written) → r ≡ recoded_of d₁ (q + 1) e (to + (q + 1 - at)) → r ≡ NoRoom → ⊥
-  pair-recodes r g f = clash (cc (told.0, g, f))
+  pub pair-recodes : (r : Option ℕ) → r ≡ recoded_of d₁ (q + 1) e (to + (q + 1 - at)) → is_some r ≡ true
+  pair-recodes r g = ap is_some (g ∙ sym told.0)
 
-  module _ (all : AllBytes d) (r : Written) (g : r ≡ recoded_of d₁ (q + 1) e (to + (q + 1 - at))) (m : ℕ) (f : r ≡ Length m)
+  module _ (all : AllBytes d) (r : Option ℕ) (g : r ≡ recoded_of d₁ (q + 1) e (to + (q + 1 - at))) (m : ℕ) (f : r ≡ Some m)
       (d₂ : List ℕ) (e₂ : d₂ ≡ recoded_in d₁ (q + 1) e (to + (q + 1 - at))) where
     answer : m ≡ length (recoded d (q + 1) e)
     answer =
-        let z : Length m ≡ Length (At + length (recoded d₁ (q + 1) e) - At) = sym f ∙ g ∙ sym told.0 in
+        let z : Some m ≡ Some (At + length (recoded d₁ (q + 1) e) - At) = sym f ∙ g ∙ sym told.0 in
         let k : m ≡ At + length (recoded d₁ (q + 1) e) - At = cc in
         omega (arith, k, ap length moved-recoded)
 
@@ -119,18 +126,18 @@ module _ {d : List ℕ} {at q e to : ℕ} (h : PairMoves d at q e to) (d₁ : Li
 
     left : d₂ ≡ pasted d to (take (q + 1 - at) (drop at d) ++ recoded d (q + 1) e)
     left =
-        let p : to + (q + 1 - at) ≡ to + length (take (q + 1 - at) (drop at d)) = omega (arith, head-long) in
-        e₂ ∙ sym told.1 ∙ (λ i. pasted (moved-head i) (p i) (moved-recoded i))
+        let k : to + (q + 1 - at) ≡ to + length (take (q + 1 - at) (drop at d)) = omega (arith, head-long) in
+        e₂ ∙ sym told.1 ∙ (λ i. pasted (moved-head i) (k i) (moved-recoded i))
         ∙ pasted-more d to (take (q + 1 - at) (drop at d)) head-fits (recoded d (q + 1) e) (omega (arith, both-room, answer, head-long, h.inside))
 
-    pub pair-shorter : Shorter d at q e to m d₂
+    pub pair-shorter : Shorter d p to m d₂
     pair-shorter =
         record {
           ends = both-room;
           long = ap length left ∙ length-pasted d to (take (q + 1 - at) (drop at d) ++ recoded d (q + 1) e) (omega (arith, both_long, both-room, h.inside));
         }
 
-    pub pair_made : PairMade d at q e to (to + (q + 1 - at) + m + 1) (set d₂ (to + (q + 1 - at) + m) 0x00)
+    pub pair_made : PairMade d p to (to + (q + 1 - at) + m + 1) (set d₂ (to + (q + 1 - at) + m) 0x00)
     unfolding pair_recoded
     pair_made =
         let w : List ℕ = take (q + 1 - at) (drop at d) in
@@ -146,40 +153,40 @@ module _ {d : List ℕ} {at q e to : ℕ} (h : PairMoves d at q e to) (d₁ : Li
 
 -- ---- the pieces of a pair that stands at `at`
 
-record PairThere (d : List ℕ) (at q e : ℕ) (name stored rest : List ℕ) : Type 0 where
-  is : drop at d ≡ name ++ 0x3D ∷ (stored ++ 0x00 ∷ rest)
-  equals : q ≡ at + length name
-  end : e ≡ at + length name + 1 + length stored
+record PairThere (d : List ℕ) (p : Place) (name stored rest : List ℕ) : Type 0 where
+  is : drop p.start d ≡ name ++ 0x3D ∷ (stored ++ 0x00 ∷ rest)
+  equals : p.equals ≡ p.start + length name
+  end : p.end ≡ p.start + length name + 1 + length stored
 
-module _ {d : List ℕ} {at q e : ℕ} {name stored rest : List ℕ} (t : PairThere d at q e name stored rest) where
-  value-part : part d (q + 1) e ≡ stored
+module _ {d : List ℕ} {p : Place} {name stored rest : List ℕ} (t : PairThere d p name stored rest) where
+  value-part : part d (p.equals + 1) p.end ≡ stored
   unfolding part
   value-part =
-      ap (take (e - (q + 1))) (sym (drop_past d at q name 0x3D (stored ++ 0x00 ∷ rest) t.is t.equals))
-      ∙ take_at stored (0x00 ∷ rest) (e - (q + 1)) (omega (arith, t.equals, t.end))
+      ap (take (p.end - (p.equals + 1))) (sym (drop_past d p.start p.equals name 0x3D (stored ++ 0x00 ∷ rest) t.is t.equals))
+      ∙ take_at stored (0x00 ∷ rest) (p.end - (p.equals + 1)) (omega (arith, t.equals, t.end))
 
-  name-part : take (q + 1 - at) (drop at d) ≡ name ++ 0x3D ∷ []
+  name-part : take (p.equals + 1 - p.start) (drop p.start d) ≡ name ++ 0x3D ∷ []
   name-part =
-      ap (take (q + 1 - at)) (t.is ∙ sym (append_assoc name (0x3D ∷ []) (stored ++ 0x00 ∷ rest)))
-      ∙ take_at (name ++ 0x3D ∷ []) (stored ++ 0x00 ∷ rest) (q + 1 - at) (omega (arith, length-append name (0x3D ∷ []), t.equals))
+      ap (take (p.equals + 1 - p.start)) (t.is ∙ sym (append_assoc name (0x3D ∷ []) (stored ++ 0x00 ∷ rest)))
+      ∙ take_at (name ++ 0x3D ∷ []) (stored ++ 0x00 ∷ rest) (p.equals + 1 - p.start) (omega (arith, length-append name (0x3D ∷ []), t.equals))
 
-  pair-canonical : pair_recoded d at q e ≡ pair_bytes (canonical_pair name (decode stored))
+  pair-canonical : pair_recoded d p ≡ pair_bytes (canonical_pair name (decode stored))
   unfolding pair_recoded pair_bytes recoded
   pair-canonical =
       (λ i. name-part i ++ (encode (decode (value-part i)) ++ 0x00 ∷ []))
       ∙ append_assoc name (0x3D ∷ []) (encode (decode stored) ++ 0x00 ∷ [])
 
-  head-is : drop at d ≡ (name ++ 0x3D ∷ stored) ++ 0x00 ∷ rest
+  head-is : drop p.start d ≡ (name ++ 0x3D ∷ stored) ++ 0x00 ∷ rest
   head-is = t.is ∙ sym (append_assoc name (0x3D ∷ stored) (0x00 ∷ rest))
 
-  end_is : e ≡ at + length (name ++ 0x3D ∷ stored)
+  end_is : p.end ≡ p.start + length (name ++ 0x3D ∷ stored)
   end_is = omega (arith, t.end, length-append name (0x3D ∷ stored))
 
-  pair-past : drop (e + 1) d ≡ rest
-  pair-past = sym (drop_past d at e (name ++ 0x3D ∷ stored) 0x00 rest head-is end_is)
+  pair-past : drop (p.end + 1) d ≡ rest
+  pair-past = sym (drop_past d p.start p.end (name ++ 0x3D ∷ stored) 0x00 rest head-is end_is)
 
-  pair_inside : e < length d
-  pair_inside = past-inside d at e (name ++ 0x3D ∷ stored) 0x00 rest head-is end_is
+  pair_inside : p.end < length d
+  pair_inside = past-inside d p.start p.end (name ++ 0x3D ∷ stored) 0x00 rest head-is end_is
 
 -- ---- pair by pair
 
@@ -223,35 +230,46 @@ normalizing-none {d} p =
     }
 
 -- the next pair that is left
-pub record NextPair (seen : List (List ℕ)) (left : List Pair) (at q e : ℕ) : Type 0 where
+pub record NextPair (seen : List (List ℕ)) (left : List Pair) (at : ℕ) (p : Place) : Type 0 where
   pub next : Pair
   pub others : List Pair
   pub is : left ≡ next ∷ others
-  pub equals : q ≡ at + length next.name
-  pub end : e ≡ at + length next.name + 1 + length next.stored
+  pub start : p.start ≡ at
+  pub equals : p.equals ≡ at + length next.name
+  pub end : p.end ≡ at + length next.name + 1 + length next.stored
   pub valid : spelled next.stored ≡ true
   pub good : Good (next.name ∷ seen) others
 
 -- what the code finds there
-module _ (at : ℕ) (fill l : List ℕ) where
-  stands-next : {seen : List (List ℕ)} {left : List Pair} → Good seen left → l ≡ pairs_bytes left ++ 0x00 ∷ fill → (q e : ℕ)
-      → PairAt.Pair q e ≡ place_of at (stand_at l) → NextPair seen left at q e
+module _ (long at : ℕ) (fill l : List ℕ) where
+  stands-next : {seen : List (List ℕ)} {left : List Pair} → Good seen left → l ≡ pairs_bytes left ++ 0x00 ∷ fill → (x : Place)
+      → Ok (Some x) ≡ place_of long at (stand_at l) → NextPair seen left at x
   unfolding pairs_bytes place_of
-  stands-next none r q e h = clash (cc (ap stand_at r ∙ stand-end fill))
-  stands-next (more {p = p} {ps = ps} n v s g) r q e h =
+  stands-next none r x h = let k : stand_at l ≡ finish = ap stand_at r ∙ stand-end fill in let f : Ok (Some x) ≡ Ok None = h ∙ ap (place_of long at) k in clash cc
+  stands-next (more {p = p} {ps = ps} n v s g) r x h =
       let k : stand_at l ≡ pair p.name p.stored (pairs_bytes ps ++ 0x00 ∷ fill) =
       ap stand_at (r ∙ pair-front p ps (0x00 ∷ fill)) ∙ standing-stand (a_pair (pairs_bytes ps ++ 0x00 ∷ fill) n v) in
-      let f : PairAt.Pair q e ≡ PairAt.Pair (at + length p.name) (at + length p.name + 1 + length p.stored) = h ∙ ap (place_of at) k in
-      record { next = p; others = ps; is = refl; equals = cc; end = cc; valid = v; good = g }
+      let f : Ok (Some x) ≡ Ok (Some (placed at p.name p.stored)) = h ∙ ap (place_of long at) k in
+      let q : x ≡ placed at p.name p.stored = cc in
+      record {
+        next = p;
+        others = ps;
+        is = refl;
+        start = ap (λ (y : Place). y.start) q;
+        equals = ap (λ (y : Place). y.equals) q;
+        end = ap (λ (y : Place). y.end) q;
+        valid = v;
+        good = g;
+      }
 
-  stands-none : {seen : List (List ℕ)} {left : List Pair} → Good seen left → l ≡ pairs_bytes left ++ 0x00 ∷ fill → (x : PairAt)
-      → x ≡ place_of at (stand_at l) → ((q e : ℕ) → x ≡ PairAt.Pair q e → ⊥) → left ≡ []
+  stands-none : {seen : List (List ℕ)} {left : List Pair} → Good seen left → l ≡ pairs_bytes left ++ 0x00 ∷ fill → (x : Result (Option Place) Error)
+      → x ≡ place_of long at (stand_at l) → NoPair x → left ≡ []
   unfolding place_of
   stands-none none r x h f = refl
   stands-none (more {p = p} {ps = ps} n v s g) r x h f =
       let k : stand_at l ≡ pair p.name p.stored (pairs_bytes ps ++ 0x00 ∷ fill) =
       ap stand_at (r ∙ pair-front p ps (0x00 ∷ fill)) ∙ standing-stand (a_pair (pairs_bytes ps ++ 0x00 ∷ fill) n v) in
-      absurd (f (at + length p.name) (at + length p.name + 1 + length p.stored) (h ∙ ap (place_of at) k))
+      absurd (f (placed at p.name p.stored) (h ∙ ap (place_of long at) k))
 
 module _ {d b : List ℕ} {at to : ℕ} (n : Normalizing d b at to) where
   at-inside : at < length d
@@ -260,20 +278,17 @@ module _ {d b : List ℕ} {at to : ℕ} (n : Normalizing d b at to) where
   fits : 0 + length (pairs_bytes (normalize_pairs n.passed)) ≤ length d
   fits = omega (arith, at-inside, n.written, n.order)
 
-  pub normalizing-long : length b ≡ length d
-  normalizing-long = ap length n.bytes ∙ length-pasted d 0 (pairs_bytes (normalize_pairs n.passed)) fits
-
   rest-now : drop at b ≡ pairs_bytes n.left ++ 0x00 ∷ n.fill
   rest-now =
       ap (drop at) n.bytes
       ∙ drop-pasted-after d 0 (pairs_bytes (normalize_pairs n.passed)) fits at (omega (arith, n.written, n.order)) ∙ n.rest
 
   -- it ends
-  pub normalizing-end : (x : PairAt) → x ≡ place_of at (stand_at (drop at b)) → ((q e : ℕ) → x ≡ PairAt.Pair q e → ⊥)
+  pub normalizing-end : (x : Result (Option Place) Error) → x ≡ stands_at b at → NoPair x
       → (to < length d) × ((to ≡ length (normalized_bytes (parse d))) × (b ≡ pasted d 0 (normalized_bytes (parse d))))
   unfolding normalized_bytes
   normalizing-end x h f =
-      let z : n.left ≡ [] = stands-none at n.fill (drop at b) n.good rest-now x h f in
+      let z : n.left ≡ [] = stands-none (length b) at n.fill (drop at b) n.good rest-now x h f in
       let k : parse d ≡ parsed n.passed = n.reads ∙ ap (λ (l : List Pair). parsed (n.passed ++ l)) z ∙ ap parsed (append-nil n.passed) in (
         omega (arith, at-inside, n.order),
         (
@@ -282,41 +297,42 @@ module _ {d b : List ℕ} {at to : ℕ} (n : Normalizing d b at to) where
         ),
       )
 
-  module _ (q e : ℕ) (h : PairAt.Pair q e ≡ place_of at (stand_at (drop at b))) where
-    here : NextPair n.seen n.left at q e
-    here = stands-next at n.fill (drop at b) n.good rest-now q e h
+  module _ {x : Result (Option Place) Error} (p : Place) (hx : x ≡ stands_at b at) (hp : x ≡ Ok (Some p)) where
+    here : NextPair n.seen n.left at p
+    here = stands-next (length b) at n.fill (drop at b) n.good rest-now p (sym hp ∙ hx)
 
     there : (l : List ℕ) → drop at l ≡ pairs_bytes n.left ++ 0x00 ∷ n.fill
-        → PairThere l at q e here.next.name here.next.stored (pairs_bytes here.others ++ 0x00 ∷ n.fill)
+        → PairThere l p here.next.name here.next.stored (pairs_bytes here.others ++ 0x00 ∷ n.fill)
     there l r =
         record {
-          is = r ∙ ap (λ (ps : List Pair). pairs_bytes ps ++ 0x00 ∷ n.fill) here.is ∙ pair-front here.next here.others (0x00 ∷ n.fill);
-          equals = here.equals;
-          end = here.end;
+          is = ap (λ (k : ℕ). drop k l) here.start ∙ r
+              ∙ ap (λ (ps : List Pair). pairs_bytes ps ++ 0x00 ∷ n.fill) here.is ∙ pair-front here.next here.others (0x00 ∷ n.fill);
+          equals = omega (arith, here.equals, here.start);
+          end = omega (arith, here.end, here.start);
         }
 
     -- the next pair can be made canonical
-    pub pair-moves : PairMoves b at q e to
+    pub pair-moves : PairMoves b p to
     pair-moves =
         record {
-          before = n.order;
-          order = omega (arith, here.equals);
+          before = omega (arith, n.order, here.start);
+          order = omega (arith, here.start, here.equals);
           value = omega (arith, here.equals, here.end);
           inside = pair_inside (there b rest-now);
           valid = ap spelled (value-part (there b rest-now)) ∙ here.valid;
         }
 
-    pub pair-further : (at < e + 1) × (e < length d)
+    pub pair-further : (at < p.end + 1) × (p.end < length d)
     pair-further =
         (omega (arith, here.equals, here.end), pair_inside (there d n.rest))
 
     -- and then it has been passed
-    pub normalizing-more : (r : ℕ) (b₁ : List ℕ) → r ≤ e + 1 → r ≡ to + length (pair_recoded b at q e) → b₁ ≡ pasted b to (pair_recoded b at q e)
-        → Normalizing d b₁ (e + 1) r
+    pub normalizing-more : (r : ℕ) (b₁ : List ℕ) → r ≤ p.end + 1 → r ≡ to + length (pair_recoded b p) → b₁ ≡ pasted b to (pair_recoded b p)
+        → Normalizing d b₁ (p.end + 1) r
     normalizing-more r b₁ l k f =
         let w : List ℕ = pairs_bytes (normalize_pairs n.passed) in
         let v : List ℕ = pair_bytes (canonical_pair here.next.name (decode here.next.stored)) in
-        let c : pair_recoded b at q e ≡ v = pair-canonical (there b rest-now) in
+        let c : pair_recoded b p ≡ v = pair-canonical (there b rest-now) in
         let t : to ≡ 0 + length w = omega (arith, n.written) in
         let y : r ≡ length w + length v = omega (arith, k, ap length c, n.written) in
         record {
@@ -339,17 +355,15 @@ module _ {d b : List ℕ} {at to : ℕ} (n : Normalizing d b at to) where
 
 -- ---- the whole area
 
-pub scan-parses : (d : List ℕ) (sought : Place) (k u : ℕ) (place : Place) → Scanned.Pairs k u place ≡ scanned_of (parse d) sought → Parses d
-scan-parses d sought k u place h =
-    let p = scanned-pairs (parse d) sought k u place h in
+pub scan-parses : (d : List ℕ) (sought : Option Place) (s : Scanned) → Ok s ≡ scanned_of (parse d) sought → Parses d
+scan-parses d sought s h =
+    let p = scanned-pairs (parse d) sought s h in
     record { pairs = p.pairs; reads = p.is }
 
 -- a fault refuses the call
-pub normalize-refused : (d : List ℕ) (sought : Place) (e : Error) → Scanned.Refused e ≡ scanned_of (parse d) sought
+pub normalize-refused : (d : List ℕ) (sought : Option Place) (e : Error) → Err e ≡ scanned_of (parse d) sought
     → (refused e ≡ (call_area normalize d).reply) × (d ≡ (call_area normalize d).area)
-normalize-refused d sought e h =
-    let k = scan-faulty normalize d sought e check-normalize h in
-    (sym (ap (λ (o : Outcome). o.reply) k), sym (ap (λ (o : Outcome). o.area) k))
+normalize-refused d sought e h = edit-refused normalize (scan-faulty normalize d sought e check-normalize h)
 
 -- the pairs in canonical form, and the rest zeroed
 pub normalize-done : {d : List ℕ} → Parses d → (n : ℕ) → n < length d → n ≡ length (normalized_bytes (parse d)) → (d₁ : List ℕ)

@@ -8,27 +8,22 @@ ghost use Rattle.variables.specs.Views.{edit_reply};
 ghost use Rattle.variables.specs.Calls as Calls;
 ghost use Rattle.normalization.specs.Helpers.{PairMoves, pair_recoded, Parses, normalized_bytes};
 
-use pairs::{PairAt, Scanned};
-use values::Written;
-use variables::Edited;
+use errors::Error;
+use pairs::Place;
 
-// Makes the pair at `at` canonical at `to`, at or before it; answers the offset after it.
-fn normalize_pair(area: &mut [u8], at: usize, equals: usize, end: usize, to: usize) -> usize
-    requires { PairMoves area.old at equals end to }
-    ensures upper_bound { result ≤ end + 1 }
-    ensures value { result ≡ to + length (pair_recoded area.old at equals end) }
-    ensures area_after { area.new ≡ pasted area.old to (pair_recoded area.old at equals end) }
+// Makes a pair canonical at `to`, at or before it; answers the offset after it.
+fn normalize_pair(area: &mut [u8], pair: Place, to: usize) -> usize
+    requires { PairMoves area.old pair to }
+    ensures upper_bound { result ≤ pair.end + 1 }
+    ensures value { result ≡ to + length (pair_recoded area.old pair) }
+    ensures area_after { area.new ≡ pasted area.old to (pair_recoded area.old pair) }
 {
-    let n = equals + 1 - at;
-    lists::move_bytes(area, at, to, n);
-    match encoding::recode(area, equals + 1, end, to + n) {
-        Written::Length(m) => {
-            let past = to + n + m;
-            area[past] = 0;
-            past + 1
-        }
-        Written::NoRoom => to,
-    }
+    let n = pair.equals + 1 - pair.start;
+    lists::move_bytes(area, pair.start, to, n);
+    let m = encoding::recode(area, pair.equals + 1, pair.end, to + n).unwrap();
+    let past = to + n + m;
+    area[past] = 0;
+    past + 1
 }
 
 // Makes every pair canonical, one after the other from the area's first byte; answers the offset after the last.
@@ -38,33 +33,23 @@ fn normalize_pairs(area: &mut [u8]) -> usize
     ensures value { result ≡ length (normalized_bytes (parse area.old)) }
     ensures area_after { area.new ≡ pasted area.old 0 (normalized_bytes (parse area.old)) }
 {
+    // The pairs are rewritten as they are gone over, so that no iterator can hold the area.
     let mut at = 0;
     let mut to = 0;
-    loop {
-        let here = pairs::pair_at(area, at);
-        let PairAt::Pair { equals, end } = here else {
-            break to;
-        };
-        to = normalize_pair(area, at, equals, end, to);
-        at = end + 1;
+    while let Ok(Some(pair)) = pairs::pair_at(area, at) {
+        to = normalize_pair(area, pair, to);
+        at = pair.end + 1;
     }
+    to
 }
 
 // Makes every value canonical, and zeroes what follows the pairs.
-pub fn normalize(area: &mut [u8]) -> Edited
+pub fn normalize(area: &mut [u8]) -> Result<(), Error>
     ensures result_value { edit_reply result ≡ (Calls.call_area Calls.normalize area.old).reply }
     ensures area_after { area.new ≡ (Calls.call_area Calls.normalize area.old).area }
 {
-    match pairs::scan(area, b"") {
-        Scanned::Pairs {
-            count: _,
-            used: _,
-            place: _,
-        } => {
-            let past = normalize_pairs(area);
-            lists::fill(&mut area[past..], 0);
-            Edited::Done
-        }
-        Scanned::Refused(e) => Edited::Refused(e),
-    }
+    pairs::scan(area, b"")?;
+    let past = normalize_pairs(area);
+    lists::fill(&mut area[past..], 0);
+    Ok(())
 }

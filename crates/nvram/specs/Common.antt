@@ -2,8 +2,7 @@
 use Rattle.std.specs.Prelude.{ℕ, List, [], ◌∷◌}
 use Rattle.errors.specs.declared.Error.{Error}
 use Rattle.partitions.specs.declared.Partition.{Partition}
-use Rattle.partitions.specs.declared.Found.{Found}
-use Rattle.partitions.specs.Find.{only_of}
+use Rattle.partitions.specs.Find.{Found, only_of}
 use Rattle.partitions.specs.Cover.{OnlyNamed, SecondNamed, NotNamed, NotOnly}
 
 -- its signature

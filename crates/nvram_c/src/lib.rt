@@ -1,5 +1,5 @@
 // The C boundary: each function returns the code, 0 where the call is done, and stores its outputs.
-// All but the listing store an offset; the other outputs are 0 with every code from 1 up.
+// All but the listing store an offset; the other outputs are 0 with every code from 1 up. C has no Result: hence the numbers.
 #![tactic(auto)]
 
 ghost use Rattle.std.specs.Prelude.{◌≡◌};
@@ -8,6 +8,8 @@ ghost use Rattle.demands.specs.Requests.{variable, check, partition, find};
 ghost use Rattle.demands.specs.Library.{seen};
 ghost use Rattle.listing.specs.Listed.{seen_listing};
 
+use errors::Answer;
+
 // Checks an image: the number of partitions that cover it.
 #[unsafe(no_mangle)]
 pub extern "C" fn nvram_check(image: &[u8], offset: &mut usize, partitions: &mut usize) -> u32
@@ -15,9 +17,9 @@ pub extern "C" fn nvram_check(image: &[u8], offset: &mut usize, partitions: &mut
     ensures offset_after { offset.new ≡ (seen check image.now).offset }
     ensures partitions_after { partitions.new ≡ (seen check image.now).amount }
 {
-    let checked = nvram::check(image).answer();
+    let checked = Answer::from(nvram::check(image));
     *offset = checked.offset;
-    *partitions = checked.partitions;
+    *partitions = checked.value;
     checked.code
 }
 
@@ -37,11 +39,11 @@ pub extern "C" fn nvram_partition(
     ensures blocks_after { blocks.new ≡ (seen (partition index) image.now).blocks }
     ensures signature_after { signature.new ≡ (seen (partition index) image.now).signature }
 {
-    let indexed = nvram::partition(image, index).answer();
+    let indexed = Answer::from(nvram::partition(image, index));
     *offset = indexed.offset;
-    *header = indexed.header;
-    *blocks = indexed.blocks as usize;
-    *signature = indexed.signature;
+    *header = indexed.value.offset;
+    *blocks = indexed.value.blocks.0 as usize;
+    *signature = indexed.value.signature;
     indexed.code
 }
 
@@ -60,10 +62,10 @@ pub extern "C" fn nvram_find(
     ensures header_after { header.new ≡ (seen (find signature name.now) image.now).header }
     ensures blocks_after { blocks.new ≡ (seen (find signature name.now) image.now).blocks }
 {
-    let found = nvram::find(image, signature, name).answer();
+    let found = Answer::from(nvram::find(image, signature, name));
     *offset = found.offset;
-    *header = found.header;
-    *blocks = found.blocks as usize;
+    *header = found.value.offset;
+    *blocks = found.value.blocks.0 as usize;
     found.code
 }
 
@@ -74,9 +76,9 @@ pub extern "C" fn nvram_count(image: &[u8], offset: &mut usize, variables: &mut 
     ensures offset_after { offset.new ≡ (seen (variable count) image.now).offset }
     ensures variables_after { variables.new ≡ (seen (variable count) image.now).amount }
 {
-    let counted = nvram::count(image).answer();
+    let counted = Answer::from(nvram::count(image));
     *offset = counted.offset;
-    *variables = counted.amount;
+    *variables = counted.value;
     counted.code
 }
 
@@ -94,9 +96,9 @@ pub extern "C" fn nvram_read(
     ensures length_after { length.new ≡ (seen (variable (read name.now buffer.old)) image.now).amount }
     ensures buffer_after { buffer.new ≡ (seen (variable (read name.now buffer.old)) image.now).buffer }
 {
-    let reading = nvram::read(image, name, buffer).answer();
+    let reading = Answer::from(nvram::read(image, name, buffer));
     *offset = reading.offset;
-    *length = reading.amount;
+    *length = reading.value;
     reading.code
 }
 
@@ -107,7 +109,7 @@ pub extern "C" fn nvram_set(image: &mut [u8], name: &[u8], value: &[u8], offset:
     ensures offset_after { offset.new ≡ (seen (variable (set name.now value.now)) image.old).offset }
     ensures image_after { image.new ≡ (seen (variable (set name.now value.now)) image.old).image }
 {
-    let edited = nvram::set(image, name, value).answer();
+    let edited = Answer::from(nvram::set(image, name, value));
     *offset = edited.offset;
     edited.code
 }
@@ -119,7 +121,7 @@ pub extern "C" fn nvram_remove(image: &mut [u8], name: &[u8], offset: &mut usize
     ensures offset_after { offset.new ≡ (seen (variable (remove name.now)) image.old).offset }
     ensures image_after { image.new ≡ (seen (variable (remove name.now)) image.old).image }
 {
-    let removal = nvram::remove(image, name).answer();
+    let removal = Answer::from(nvram::remove(image, name));
     *offset = removal.offset;
     removal.code
 }
@@ -131,7 +133,7 @@ pub extern "C" fn nvram_normalize(image: &mut [u8], offset: &mut usize) -> u32
     ensures offset_after { offset.new ≡ (seen (variable normalize) image.old).offset }
     ensures image_after { image.new ≡ (seen (variable normalize) image.old).image }
 {
-    let normal = nvram::normalize(image).answer();
+    let normal = Answer::from(nvram::normalize(image));
     *offset = normal.offset;
     normal.code
 }
@@ -143,7 +145,7 @@ pub extern "C" fn nvram_listing(image: &[u8], text: &mut [u8], length: &mut usiz
     ensures length_after { length.new ≡ (seen_listing image.now text.old).amount }
     ensures text_after { text.new ≡ (seen_listing image.now text.old).buffer }
 {
-    let listed = listing::listing(image, text).answer();
-    *length = listed.length;
+    let listed = Answer::from(listing::listing(image, text));
+    *length = listed.value;
     listed.code
 }

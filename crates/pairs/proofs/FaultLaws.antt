@@ -20,8 +20,7 @@ use Rattle.pairs.specs.Area.{Pair, pair_of, pairs_bytes, Parse, faulty, first_pa
 use Rattle.pairs.specs.Rules.{Entry, In, sizes, CutOff, in-name, in-value, in-escape, FaultAt, seven, eight, nine, ten, Faulty}
 use Rattle.pairs.proofs.NameScans.{up-short}
 use Rattle.pairs.proofs.ScanLaws.{Standing, a_pair, the_end, cut-name, cut-value, cut-escape, a-wrong-name, a-wrong-escape, standing}
-use Rattle.pairs.proofs.ParseLaws.{Good, none, more, length_whole, length_pairs, pair-front, parse_rest}
-use Rattle.pairs.proofs.ParseLaws.{parse-start, parse-standing, parse-pair, first-faulty, every-left, every-right}
+use Rattle.pairs.proofs.ParseLaws.{Good, none, more, length_whole, length_pairs, pair-front, parse_rest, parse-start, parse-standing, parse-pair, first-faulty, every-left, every-right}
 use Rattle.lists.proofs.StandsLaws.{stands-none, stands-first, stands-other}
 use Rattle.pairs.proofs.StandsLaws.{names}
 use Rattle.pairs.proofs.EntryLaws.{entries_of, sizes-pairs, names-entries, in-exactly, good-each, good-once, pairs_of, of-pairs, once-good}

@@ -11,92 +11,93 @@ use borrow.Author.Tests.{eq-eqb, ne_eqb}
 use Rattle.lists.specs.Bytes.{same_bytes}
 use Rattle.lists.proofs.ByteLaws.{same_false, same_step}
 use Rattle.values.specs.Helpers.{part}
-use Rattle.pairs.specs.declared.PairAt.{PairAt}
+use Rattle.std.specs.Prelude.{Option, Some, None, Result}
+use Rattle.std.specs.Option.{option_or}
+use Rattle.errors.specs.declared.Error.{Error}
 use Rattle.pairs.specs.declared.Place.{Place}
-use Rattle.pairs.specs.declared.Place.TheVariants.{At, None}
 use Rattle.pairs.specs.Scan.{Stand, pair, finish, cut, wrong_name, wrong_escape, stand_at}
-use Rattle.pairs.specs.Helpers.{place_of, on_find, find_from, find_at, first_place}
-use Rattle.pairs.proofs.PairPlaces.{pair-here, PairSeen}
+use Rattle.pairs.specs.Helpers.{place_of, on_find, find_from, find_at}
+use Rattle.pairs.proofs.PairPlaces.{stands_at, NoPair, pair-here, PairSeen}
 
 -- the name of a pair that the code has seen
-pub seen-name : {area : List ℕ} {at q e : ℕ} (p : PairSeen area at q e) → part area at q ≡ p.name
+pub seen-name : {area : List ℕ} {at : ℕ} {p : Place} (s : PairSeen area at p) → part area p.start p.equals ≡ s.name
 unfolding part
-seen-name {area} {at} {q} p =
-    let n : length p.name ≡ q - at = omega (arith, p.equals) in
-    ap (take (q - at)) (pair-here (drop at area) p.name p.stored p.rest p.stand).is ∙ take_at p.name _ (q - at) n
+seen-name {area} {at} {p} s =
+    let n : length s.name ≡ p.equals - at = omega (arith, s.equals) in
+    ap (λ (k : ℕ). part area k p.equals) s.start
+    ∙ ap (take (p.equals - at)) (pair-here (drop at area) s.name s.stored s.rest s.stand).is ∙ take_at s.name _ (p.equals - at) n
 
 -- ---- over the pairs
 
 -- the search goes on at the offset at, and has found the place so far
-pub record Finding (area name : List ℕ) (place : Place) (at : ℕ) : Type 0 where
+pub record Finding (area name : List ℕ) (place : Option Place) (at : ℕ) : Type 0 where
   pub bound : ℕ
   pub enough : length area < at + bound
-  pub left : find_at area name ≡ first_place place (find_from bound name at (drop at area))
+  pub left : find_at area name ≡ option_or place (find_from bound name at (drop at area))
   pub inside : at ≤ length area
 
 pub finding-none : (area name : List ℕ) → Finding area name None 0
-unfolding find_at first_place
+unfolding find_at
 finding-none area name = record { bound = suc (length area); enough = omega arith; left = refl; inside = omega arith }
 
 -- one turn more is within the bound
-turn : {area name : List ℕ} {place : Place} {at : ℕ} → Finding area name place at
-    → (n : ℕ) × (length area ≤ at + n) × (find_at area name ≡ first_place place (on_find (stand_at (drop at area)) name at (λ a r. find_from n name a r)))
+turn : {area name : List ℕ} {place : Option Place} {at : ℕ} → Finding area name place at
+    → (n : ℕ) × (length area ≤ at + n) × (find_at area name ≡ option_or place (on_find (stand_at (drop at area)) name at (λ a r. find_from n name a r)))
 unfolding find_from
 turn {area} {name} {place} {at} s = go s.bound s.enough s.left
   where
-    go : (n : ℕ) → length area < at + n → find_at area name ≡ first_place place (find_from n name at (drop at area))
-        → (m : ℕ) × (length area ≤ at + m) × (find_at area name ≡ first_place place (on_find (stand_at (drop at area)) name at (λ a r. find_from m name a r)))
+    go : (n : ℕ) → length area < at + n → find_at area name ≡ option_or place (find_from n name at (drop at area))
+        → (m : ℕ) × (length area ≤ at + m) × (find_at area name ≡ option_or place (on_find (stand_at (drop at area)) name at (λ a r. find_from m name a r)))
     go zero h e = absurd (omega (arith, s.inside))
     go (suc n) h e = (n, omega arith, e)
 
-none-at : (at : ℕ) (name : List ℕ) (go : ℕ → List ℕ → Place) (s : Stand) → ((q e : ℕ) → place_of at s ≡ PairAt.Pair q e → ⊥) → on_find s name at go ≡ None
+none-at : (long at : ℕ) (name : List ℕ) (go : ℕ → List ℕ → Option Place) (s : Stand) → NoPair (place_of long at s) → on_find s name at go ≡ None
 unfolding place_of
-none-at at name go (pair n stored rest) h = absurd (h _ _ refl)
-none-at at name go finish h = refl
-none-at at name go cut h = refl
-none-at at name go (wrong_name k) h = refl
-none-at at name go (wrong_escape k) h = refl
+none-at long at name go (pair n stored rest) h = absurd (h _ refl)
+none-at long at name go finish h = refl
+none-at long at name go cut h = refl
+none-at long at name go (wrong_name k) h = refl
+none-at long at name go (wrong_escape k) h = refl
 
-first-none : (x : Place) → first_place x None ≡ x
-unfolding first_place
-first-none (At start equals end) = refl
+first-none : (x : Option Place) → option_or x None ≡ x
+first-none (Some p) = refl
 first-none None = refl
 
-first-first : (x : Place) (start equals end : ℕ) (y : Place) → first_place x (At start equals end) ≡ first_place (first_place x (At start equals end)) y
-unfolding first_place
-first-first (At s q e) start equals end y = refl
-first-first None start equals end y = refl
+first-first : (x : Option Place) (p : Place) (y : Option Place) → option_or x (Some p) ≡ option_or (option_or x (Some p)) y
+first-first (Some q) p y = refl
+first-first None p y = refl
 
-module _ {area name : List ℕ} {place : Place} {at : ℕ} (s : Finding area name place at) where
-  pub finding-end : (x : PairAt) → x ≡ place_of at (stand_at (drop at area)) → ((q e : ℕ) → x ≡ PairAt.Pair q e → ⊥) → find_at area name ≡ place
+module _ {area name : List ℕ} {place : Option Place} {at : ℕ} (s : Finding area name place at) where
+  pub finding-end : (x : Result (Option Place) Error) → x ≡ stands_at area at → NoPair x → find_at area name ≡ place
   finding-end x e h =
       let t = turn s in
-      t.2 ∙ ap (first_place place) (none-at at name _ (stand_at (drop at area)) (λ q e' f. h q e' (e ∙ f))) ∙ first-none place
+      t.2 ∙ ap (option_or place) (none-at (length area) at name _ (stand_at (drop at area)) (λ p f. h p (e ∙ f))) ∙ first-none place
 
-  module _ {q e : ℕ} (p : PairSeen area at q e) where
-    pub finding-same : same_bytes name (part area at q) ≡ true → (x : Place) → x ≡ first_place place (At at q e) → Finding area name x (e + 1)
-    finding-same h x ex =
+  module _ {p : Place} (v : PairSeen area at p) where
+    pub finding-same : same_bytes name (part area p.start p.equals) ≡ true → Finding area name (option_or place (Some p)) (p.end + 1)
+    finding-same h =
         let t = turn s in
-        let f : same_bytes name p.name ≡ true = ap (same_bytes name) (sym (seen-name p)) ∙ h in
-        let g : e ≡ at + length p.name + 1 + length p.stored = omega (arith, p.equals, p.end) in
-        let k : find_at area name ≡ first_place place (At at q e) = t.2 ∙ rw (p.stand, f) (λ i. first_place place (At at (sym p.equals i) (sym g i))) in
+        let f : same_bytes name v.name ≡ true = ap (same_bytes name) (sym (seen-name v)) ∙ h in
+        let g : p.end ≡ at + length v.name + 1 + length v.stored = omega (arith, v.equals, v.end) in
+        let k : find_at area name ≡ option_or place (Some p) =
+        t.2 ∙ rw (v.stand, f) (λ i. option_or place (Some (record { start = sym v.start i; equals = sym v.equals i; end = sym g i }))) in
         record {
           bound = t.0;
-          enough = omega (arith, t.1, p.equals, p.end);
-          left = k ∙ first-first place at q e _ ∙ ap (λ (y : Place). first_place y (find_from t.0 name (e + 1) (drop (e + 1) area))) (sym ex);
-          inside = omega (arith, p.inside);
+          enough = omega (arith, t.1, v.equals, v.end);
+          left = k ∙ first-first place p _;
+          inside = omega (arith, v.inside);
         }
 
-    pub finding-next : same_bytes name (part area at q) ≡ false → Finding area name place (e + 1)
+    pub finding-next : same_bytes name (part area p.start p.equals) ≡ false → Finding area name place (p.end + 1)
     finding-next h =
         let t = turn s in
-        let f : same_bytes name p.name ≡ false = ap (same_bytes name) (sym (seen-name p)) ∙ h in
-        let g : at + length p.name + length p.stored + 2 ≡ e + 1 = omega (arith, p.equals, p.end) in
+        let f : same_bytes name v.name ≡ false = ap (same_bytes name) (sym (seen-name v)) ∙ h in
+        let g : at + length v.name + length v.stored + 2 ≡ p.end + 1 = omega (arith, v.equals, v.end) in
         record {
           bound = t.0;
-          enough = omega (arith, t.1, p.equals, p.end);
-          left = t.2 ∙ rw (p.stand, f) (λ i. first_place place (find_from t.0 name (g i) (p.follows i)));
-          inside = omega (arith, p.inside);
+          enough = omega (arith, t.1, v.equals, v.end);
+          left = t.2 ∙ rw (v.stand, f) (λ i. option_or place (find_from t.0 name (g i) (v.follows i)));
+          inside = omega (arith, v.inside);
         }
 
 -- ---- over the bytes of a name
@@ -109,16 +110,16 @@ pub record Compared (area name : List ℕ) (from q k : ℕ) : Type 0 where
   pub upto : k ≤ length name
   pub left : same_bytes name (part area from q) ≡ same_bytes (drop k name) (drop k (part area from q))
 
-module _ {area : List ℕ} (name : List ℕ) {at q e : ℕ} (p : PairSeen area at q e) where
-  pub other_length : (q - at ≡ length name → ⊥) → same_bytes name (part area at q) ≡ false
+module _ {area : List ℕ} (name : List ℕ) {at : ℕ} {p : Place} (s : PairSeen area at p) where
+  pub other_length : (p.equals - p.start ≡ length name → ⊥) → same_bytes name (part area p.start p.equals) ≡ false
   other_length h =
-      same_false name (part area at q) (λ f. h (omega (arith, ap length f, ap length (seen-name p), p.equals)))
+      same_false name (part area p.start p.equals) (λ f. h (omega (arith, ap length f, ap length (seen-name s), s.start, s.equals)))
 
-  pub compared-none : q - at ≡ length name → Compared area name at q 0
+  pub compared-none : p.equals - p.start ≡ length name → Compared area name p.start p.equals 0
   compared-none h = record {
-    low = omega (arith, p.equals);
+    low = omega (arith, s.start, s.equals);
     long = h;
-    inside = omega (arith, p.end, p.inside);
+    inside = omega (arith, s.end, s.inside);
     upto = omega arith;
     left = refl;
   }

@@ -9,25 +9,23 @@ use lib.ListN.{length, take, drop, length-append}
 use Rattle.lists.specs.Bytes.{Every, stands}
 use Rattle.lists.proofs.Tests.{split, clash}
 use Rattle.errors.specs.declared.AreaFault.TheVariants.{AreaEnd, StoredName, Escape, Repeated}
-use Rattle.repeats.specs.declared.Repeat.{Repeat}
-use Rattle.repeats.specs.declared.Repeat.TheVariants.{At, None}
+use Rattle.std.specs.Prelude.{Option, Some, None, Result, Ok, Err}
+use Rattle.std.specs.Result.{result_and}
+use Rattle.errors.specs.declared.Error.{Error}
 use Rattle.repeats.specs.Pieces.{ends_name, name_of, piece_name, starts_from, starts, repeat_in, first_repeat}
-use Rattle.pairs.specs.declared.PairAt.{PairAt}
-use Rattle.pairs.specs.declared.Scanned.{Scanned}
-use Rattle.pairs.specs.declared.Scanned.TheVariants.{Pairs}
 use Rattle.pairs.specs.declared.Place.{Place}
 use Rattle.pairs.specs.Scan.{Stand, pair, finish, cut, wrong_name, wrong_escape, stand_at}
 use Rattle.pairs.specs.Area.{Pair, pair_of, pair_bytes, pairs_bytes, Parse, parsed, faulty, first_pair, on_stand, parse_from, parse}
-use Rattle.pairs.specs.Helpers.{place_of, scanned_of, closed_of, or_repeat}
-use Rattle.pairs.proofs.PairPlaces.{Goes, NotZero, drop_past, pair-here}
+use Rattle.pairs.specs.Helpers.{place_of, unrepeated, scanned_of}
+use Rattle.pairs.proofs.PairPlaces.{Goes, NotZero, drop_past, stands_at, NoPair, pair-here}
 use Rattle.pairs.proofs.PairRuns.{PairRun, none, more, pair-bytes, CleanPairs, run-clean, Walked, walked-length, walked-take}
 use Rattle.pairs.proofs.ParseLaws.{length-pair}
 
 -- the first pair whose name stood before
-unfoldable pub repeat_pairs : ℕ → List (List ℕ) → List Pair → Repeat
+unfoldable pub repeat_pairs : ℕ → List (List ℕ) → List Pair → Option ℕ
 repeat_pairs at seen [] = None
 repeat_pairs at seen (p ∷ ps) =
-    elim (stands p.name seen) [ true ↦ At at | false ↦ repeat_pairs (at + length p.name + length p.stored + 2) (p.name ∷ seen) ps ]
+    elim (stands p.name seen) [ true ↦ Some at | false ↦ repeat_pairs (at + length p.name + length p.stored + 2) (p.name ∷ seen) ps ]
 
 -- ---- a pair is a piece
 
@@ -87,7 +85,7 @@ module _ (l : List ℕ) (at : ℕ) (seen : List (List ℕ)) (name stored m : Lis
   piece-rest =
       sym (drop_past l at (at + length (name ++ 0x3D ∷ stored)) (name ++ 0x3D ∷ stored) 0x00 m (d ∙ joined) refl ∙ ap (λ (k : ℕ). drop k l) past_is)
 
-  piece-hit : stands name seen ≡ true → repeat_in l seen (starts_from true at (pair_bytes (pair_of name stored) ++ m)) ≡ At at
+  piece-hit : stands name seen ≡ true → repeat_in l seen (starts_from true at (pair_bytes (pair_of name stored) ++ m)) ≡ Some at
   unfolding repeat_in
   piece-hit t = ap (repeat_in l seen) piece-starts ∙ rw (piece-name, t, repeat_in)
 
@@ -115,8 +113,8 @@ first-repeat-pairs {ps} c = repeat-pairs (pairs_bytes ps) 0 [] c refl
 
 -- ---- the parse of pairs and what follows them
 
-abbrev join_parse : Repeat → Parse → Parse
-join_parse (At at) out = faulty Repeated at
+abbrev join_parse : Option ℕ → Parse → Parse
+join_parse (Some at) out = faulty Repeated at
 join_parse None out = out
 
 abbrev prefixed : List Pair → Parse → Parse
@@ -127,8 +125,8 @@ prefixed-none : (t : Parse) → t ≡ prefixed [] t
 prefixed-none (parsed qs) = refl
 prefixed-none (faulty f at) = refl
 
-first-prefixed : (p : Pair) (ps : List Pair) (r : Repeat) (t : Parse) → first_pair p (join_parse r (prefixed ps t)) ≡ join_parse r (prefixed (p ∷ ps) t)
-first-prefixed p ps (At at) t = refl
+first-prefixed : (p : Pair) (ps : List Pair) (r : Option ℕ) (t : Parse) → first_pair p (join_parse r (prefixed ps t)) ≡ join_parse r (prefixed (p ∷ ps) t)
+first-prefixed p ps (Some at) t = refl
 first-prefixed p ps None (parsed qs) = refl
 first-prefixed p ps None (faulty f at) = refl
 
@@ -167,57 +165,85 @@ parse-run (more {name} {stored} {l} {next} {ps = ps} s r) t (suc n) seen at last
     ∙ ap (first_pair (pair_of name stored)) (parse-run r t n (name ∷ seen) a last past (omega arith) f stop)
     ∙ first-prefixed (pair_of name stored) ps (repeat_pairs a (name ∷ seen) ps) t ∙ sym (rw (u, repeat_pairs)))
 
--- what stands where the walk ends, as a parse
-abbrev tail_parse : ℕ → PairAt → Parse
-tail_parse long (PairAt.Pair q e) = parsed []
-tail_parse long PairAt.End = parsed []
-tail_parse long PairAt.Cut = faulty AreaEnd long
-tail_parse long (PairAt.WrongName k) = faulty StoredName k
-tail_parse long (PairAt.WrongEscape k) = faulty Escape k
+-- what stands at the offset at, where the walk ends in an area of `long` bytes, as a parse
+abbrev tail_parse : ℕ → ℕ → Stand → Parse
+tail_parse long at (pair name stored rest) = parsed []
+tail_parse long at finish = parsed []
+tail_parse long at cut = faulty AreaEnd long
+tail_parse long at (wrong_name k) = faulty StoredName (at + k)
+tail_parse long at (wrong_escape k) = faulty Escape (at + k)
 
-tail-is : (at long : ℕ) (go : List (List ℕ) → ℕ → List ℕ → Parse) (seen : List (List ℕ)) (s : Stand)
-    → ((q e : ℕ) → place_of at s ≡ PairAt.Pair q e → ⊥) → on_stand s seen at long go ≡ tail_parse long (place_of at s)
+tail-is : (at long : ℕ) (go : List (List ℕ) → ℕ → List ℕ → Parse) (seen : List (List ℕ)) (s : Stand) → NoPair (place_of long at s)
+    → on_stand s seen at long go ≡ tail_parse long at s
 unfolding place_of
-tail-is at long go seen (pair name stored rest) h = absurd (h _ _ refl)
+tail-is at long go seen (pair name stored rest) h = absurd (h _ refl)
 tail-is at long go seen finish h = refl
 tail-is at long go seen cut h = refl
 tail-is at long go seen (wrong_name k) h = refl
 tail-is at long go seen (wrong_escape k) h = refl
 
-scanned-joined : (r : Repeat) (p : Parse) (x : Place) → or_repeat r (scanned_of p x) ≡ scanned_of (join_parse r p) x
-unfolding or_repeat scanned_of
-scanned-joined (At at) p x = refl
+scanned-joined : (r : Option ℕ) (p : Parse) (x : Option Place) → result_and (unrepeated r) (scanned_of p x) ≡ scanned_of (join_parse r p) x
+unfolding unrepeated scanned_of
+scanned-joined (Some at) p x = refl
 scanned-joined None p x = refl
 
-module _ {area : List ℕ} {at count : ℕ} (w : Walked area at count) (place : Place) where
-  walked-tail : (x : PairAt) → x ≡ place_of at (stand_at (drop at area)) → ((q e : ℕ) → x ≡ PairAt.Pair q e → ⊥)
-      → or_repeat (first_repeat (take at area)) (scanned_of (prefixed w.pairs (tail_parse (length area) x)) place) ≡ scanned_of (parse area) place
+module _ {area : List ℕ} {at count : ℕ} (w : Walked area at count) (place : Option Place) where
+  abbrev here : Stand
+  here = stand_at (drop at area)
+
+  abbrev all : Parse
+  all = prefixed w.pairs (tail_parse (length area) at here)
+
+  walked-tail : NoPair (stands_at area at) → result_and (unrepeated (first_repeat (take at area))) (scanned_of all place) ≡ scanned_of (parse area) place
   unfolding parse parse_from
-  walked-tail x e h =
-      let t : Parse = tail_parse (length area) x in
-      ap (λ (l : List ℕ). or_repeat (first_repeat l) (scanned_of (prefixed w.pairs t) place)) (walked-take w)
-      ∙ ap (λ (r : Repeat). or_repeat r (scanned_of (prefixed w.pairs t) place)) (first-repeat-pairs (run-clean w.run))
-      ∙ scanned-joined (repeat_pairs 0 [] w.pairs) (prefixed w.pairs t) place
+  walked-tail h =
+      ap (λ (l : List ℕ). result_and (unrepeated (first_repeat l)) (scanned_of all place)) (walked-take w)
+      ∙ ap (λ (r : Option ℕ). result_and (unrepeated r) (scanned_of all place)) (first-repeat-pairs (run-clean w.run))
+      ∙ scanned-joined (repeat_pairs 0 [] w.pairs) all place
       ∙ ap (λ (p : Parse). scanned_of p place) (sym
-      (parse-run w.run t (suc (length area)) [] 0 at (length area) (omega arith) (omega (arith, walked-length w))
-      (λ m s.
-      tail-is at (length area) (λ s a r. parse_from m s a (length area) r) s (stand_at (drop at area)) (λ q e' f. h q e' (e ∙ f))
-      ∙ ap (tail_parse (length area)) (sym e))))
+      (parse-run w.run (tail_parse (length area) at here) (suc (length area)) [] 0 at (length area) (omega arith) (omega (arith, walked-length w))
+      (λ m s. tail-is at (length area) (λ s a r. parse_from m s a (length area) r) s here h)))
 
   -- what ends the pairs, as the pairs before it and a parse
-  closed-tail : (x : PairAt) → ((q e : ℕ) → x ≡ PairAt.Pair q e → ⊥)
-      → closed_of x (length area) count at place ≡ scanned_of (prefixed w.pairs (tail_parse (length area) x)) place
-  unfolding scanned_of closed_of
-  closed-tail (PairAt.Pair q e) h = absurd (h q e refl)
-  closed-tail PairAt.End h =
-      (λ i. Pairs (sym w.counted i) (sym (walked-length w) i) place)
-      ∙ ap (λ (ps : List Pair). Pairs (length ps) (length (pairs_bytes ps)) place) (sym (append-nil w.pairs))
-  closed-tail PairAt.Cut h = refl
-  closed-tail (PairAt.WrongName k) h = refl
-  closed-tail (PairAt.WrongEscape k) h = refl
+  closed-tail : (s : Stand) → NoPair (place_of (length area) at s)
+      → result_and (place_of (length area) at s) (Ok (record { count = count; used = at; place = place }))
+      ≡ scanned_of (prefixed w.pairs (tail_parse (length area) at s)) place
+  unfolding scanned_of place_of
+  closed-tail (pair name stored rest) h = absurd (h _ refl)
+  closed-tail finish h =
+      (λ i. Ok (record { count = sym w.counted i; used = sym (walked-length w) i; place = place }))
+      ∙ ap (λ (ps : List Pair). Ok (record { count = length ps; used = length (pairs_bytes ps); place = place })) (sym (append-nil w.pairs))
+  closed-tail cut h = refl
+  closed-tail (wrong_name k) h = refl
+  closed-tail (wrong_escape k) h = refl
 
-  pub walked_end : (x : PairAt) → x ≡ place_of at (stand_at (drop at area)) → ((q e : ℕ) → x ≡ PairAt.Pair q e → ⊥)
-      → (out r : Scanned) → out ≡ closed_of x (length area) count at place → r ≡ or_repeat (first_repeat (take at area)) out → (sought : Place) → sought ≡ place
-      → r ≡ scanned_of (parse area) sought
-  walked_end x e h out r eo er sought es =
-      er ∙ ap (or_repeat (first_repeat (take at area))) (eo ∙ closed-tail x h) ∙ walked-tail x e h ∙ ap (scanned_of (parse area)) (sym es)
+  module _ (x : Result (Option Place) Error) (e : x ≡ stands_at area at) (h : NoPair x) (sought : Option Place) (es : sought ≡ place) where
+    -- the whole scan, by whether a name stands twice among the pairs and by what ends them
+    walked_end : result_and (unrepeated (first_repeat (take at area))) (result_and x (Ok (record { count = count; used = at; place = place })))
+        ≡ scanned_of (parse area) sought
+    walked_end =
+        let n : NoPair (stands_at area at) = λ p f. h p (e ∙ f) in
+        ap (result_and (unrepeated (first_repeat (take at area))))
+        (ap (λ (y : Result (Option Place) Error). result_and y (Ok (record { count = count; used = at; place = place }))) e ∙ closed-tail here n)
+        ∙ walked-tail n ∙ ap (scanned_of (parse area)) (sym es)
+
+    -- a name that stands twice
+    pub walked-repeat : (f : Error) → Err f ≡ unrepeated (first_repeat (take at area)) → Err f ≡ scanned_of (parse area) sought
+    walked-repeat f r =
+        ap (λ (y : Result (Unit {0}) Error). result_and y (result_and x (Ok (record { count = count; used = at; place = place })))) r ∙ walked_end
+
+    -- no name stands twice
+    module _ (once : Ok tt ≡ unrepeated (first_repeat (take at area))) where
+      walked-once : result_and x (Ok (record { count = count; used = at; place = place })) ≡ scanned_of (parse area) sought
+      walked-once =
+          ap (λ (y : Result (Unit {0}) Error). result_and y (result_and x (Ok (record { count = count; used = at; place = place })))) once ∙ walked_end
+
+      -- and a fault ends the pairs
+      pub walked-fault : (f : Error) → x ≡ Err f → Err f ≡ scanned_of (parse area) sought
+      walked-fault f r =
+          ap (λ (y : Result (Option Place) Error). result_and y (Ok (record { count = count; used = at; place = place }))) (sym r) ∙ walked-once
+
+      -- or the ending 0x00
+      pub walked-done : (y : Option Place) → x ≡ Ok y → Ok (record { count = count; used = at; place = place }) ≡ scanned_of (parse area) sought
+      walked-done y r =
+          ap (λ (y : Result (Option Place) Error). result_and y (Ok (record { count = count; used = at; place = place }))) (sym r) ∙ walked-once

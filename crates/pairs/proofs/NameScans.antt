@@ -12,8 +12,7 @@ use Rattle.lists.specs.Bytes.{Every}
 use Rattle.lists.proofs.Tests.{split, clash}
 use Rattle.lists.proofs.ListLaws.{every_map}
 use Rattle.lists.proofs.ByteLaws.{every-at}
-use Rattle.names.specs.declared.NameCheck.TheVariants.{Good, Wrong}
-use Rattle.names.specs.Name.{name_check}
+use Rattle.names.specs.Name.{good, wrong, name_check}
 use Rattle.names.specs.Rules.{NameByte, NameRule, FirstWrong}
 use Rattle.names.proofs.NameLaws.{check-good-exactly, check-wrong-exactly, split-check}
 use Rattle.pairs.specs.Scan.{Scan, ends, bad, short, and, stored_name, past_name, scan_name}
@@ -110,11 +109,11 @@ no-equals name a = every_map NameByte (λ b. b ≢ 0x3D) (λ b n. n.no-equals) n
 
 -- ---- the scan, by what the check finds
 
-pub scan_good : (bs : List ℕ) → name_check (stored_name bs) ≡ Good → scan_name bs ≡ past_name (stored_name bs) (drop (length (stored_name bs)) bs)
+pub scan_good : (bs : List ℕ) → name_check (stored_name bs) ≡ good → scan_name bs ≡ past_name (stored_name bs) (drop (length (stored_name bs)) bs)
 unfolding scan_name
 scan_good bs c = rw c
 
-pub scan-wrong : (bs : List ℕ) (i : ℕ) → name_check (stored_name bs) ≡ Wrong i → scan_name bs ≡ bad i
+pub scan-wrong : (bs : List ℕ) (i : ℕ) → name_check (stored_name bs) ≡ wrong i → scan_name bs ≡ bad i
 unfolding scan_name
 scan-wrong bs i c = rw c
 

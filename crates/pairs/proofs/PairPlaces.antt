@@ -14,11 +14,13 @@ use Rattle.names.specs.Rules.{NameByte}
 use Rattle.names.proofs.NameLaws.{name-not-zero}
 use Rattle.lists.proofs.ListLaws.{drop-next, every_map}
 use Rattle.repeats.specs.Pieces.{ends_name}
-use Rattle.pairs.specs.declared.ScanEnd.{ScanEnd}
-use Rattle.pairs.specs.declared.ScanEnd.TheVariants.{At, Wrong, Cut}
-use Rattle.pairs.specs.declared.PairAt.{PairAt}
+use Rattle.std.specs.Prelude.{Option, Some, None, Result, Ok, Err}
+use Rattle.errors.specs.declared.AreaFault.TheVariants.{StoredName, Escape}
+use Rattle.errors.specs.declared.Error.{Error}
+use Rattle.errors.specs.declared.Error.TheVariants.{BadArea}
+use Rattle.pairs.specs.declared.Place.{Place}
 use Rattle.pairs.specs.Scan.{Scan, ends, bad, short, scan_name, scan_value, Stand, pair, finish, cut, wrong_name, wrong_escape, on_value, on_name, stand_at}
-use Rattle.pairs.specs.Helpers.{end_of, place_of}
+use Rattle.pairs.specs.Helpers.{cut_off, end_of, placed, place_of}
 use Rattle.pairs.proofs.NameScans.{and-ends, name-scan}
 use Rattle.pairs.proofs.ScanLaws.{stand-begun}
 
@@ -124,11 +126,19 @@ drop_past area at n w x rest e h =
 pub past-inside : (area : List ℕ) (at n : ℕ) (w : List ℕ) (x : ℕ) (rest : List ℕ) → drop at area ≡ w ++ x ∷ rest → n ≡ at + length w → n < length area
 past-inside area at n w x rest e h = omega (arith, length-drop at area, ap length e, length-append w (x ∷ rest))
 
-pub name-end : (area : List ℕ) (at n : ℕ) → At n ≡ end_of at at (scan_name (drop at area)) → NameEnd area at n
+-- where the scan of the name ends
+abbrev pub name_ends : List ℕ → ℕ → Result ℕ Error
+name_ends area at = end_of StoredName (length area) at at (scan_name (drop at area))
+
+-- where the scan of the value ends, whose name ends at n
+abbrev pub value_ends : List ℕ → ℕ → Result ℕ Error
+value_ends area n = end_of Escape (length area) (n + 1) (n + 1) (scan_value false 0 (drop (n + 1) area))
+
+pub name-end : (area : List ℕ) (at n : ℕ) → Ok n ≡ name_ends area at → NameEnd area at n
 unfolding end_of
 name-end area at n e = go (scan_name (drop at area)) refl e
   where
-    go : (s : Scan) → scan_name (drop at area) ≡ s → At n ≡ end_of at at s → NameEnd area at n
+    go : (s : Scan) → scan_name (drop at area) ≡ s → Ok n ≡ end_of StoredName (length area) at at s → NameEnd area at n
     go short q e = clash cc
     go (bad k) q e = clash cc
     go (ends name after) q e =
@@ -143,24 +153,34 @@ name-end area at n e = go (scan_name (drop at area)) refl e
           inside = past-inside area at n name 0x3D after t.is h;
         }
 
--- the code's answer by the scan of the value, where the name ends at n
-abbrev pub by_value : ℕ → ScanEnd → PairAt
-by_value n (At v) = PairAt.Pair n v
-by_value n (Wrong k) = PairAt.WrongEscape k
-by_value n Cut = PairAt.Cut
+-- the code's answer by the scan of the value, where the name of the pair at `at` ends at n
+abbrev pub by_value : ℕ → ℕ → Result ℕ Error → Result (Option Place) Error
+by_value at n (Ok v) = Ok (Some (record { start = at; equals = n; end = v }))
+by_value at n (Err e) = Err e
 
-value-place : (at n : ℕ) (name : List ℕ) → n ≡ at + length name → (s : Scan) → by_value n (end_of (n + 1) (n + 1) s) ≡ place_of at (on_value name s)
+value-place : (long at n : ℕ) (name : List ℕ) → n ≡ at + length name → (s : Scan)
+    → by_value at n (end_of Escape long (n + 1) (n + 1) s) ≡ place_of long at (on_value name s)
 unfolding end_of place_of
-value-place at n name h (ends stored rest) = let e : n + 1 + length stored ≡ at + length name + 1 + length stored = omega arith in λ i. PairAt.Pair (h i) (e i)
-value-place at n name h (bad k) = let e : n + 1 + k ≡ at + (length name + 1 + k) = omega arith in ap PairAt.WrongEscape e
-value-place at n name h short = refl
+value-place long at n name h (ends stored rest) =
+    let e : n + 1 + length stored ≡ at + length name + 1 + length stored = omega arith in
+    λ i. Ok (Some (record { start = at; equals = h i; end = e i }))
+value-place long at n name h (bad k) = let e : n + 1 + k ≡ at + (length name + 1 + k) = omega arith in ap (λ (j : ℕ). Err (BadArea Escape j)) e
+value-place long at n name h short = refl
 
-pub stand-past : (area : List ℕ) (at : ℕ) → length area ≤ at → PairAt.Cut ≡ place_of at (stand_at (drop at area))
+-- no pair was seen
+abbrev pub NoPair : Result (Option Place) Error → Type 0
+NoPair x = (p : Place) → x ≡ Ok (Some p) → ⊥
+
+-- what stands at an offset
+abbrev pub stands_at : List ℕ → ℕ → Result (Option Place) Error
+stands_at area at = place_of (length area) at (stand_at (drop at area))
+
+pub stand-past : (area : List ℕ) (at : ℕ) → length area ≤ at → Err (cut_off (length area)) ≡ stands_at area at
 unfolding stand_at place_of
 stand-past area at h = rw (drop_of_length-le area h)
 
 module _ (area : List ℕ) (at : ℕ) (h : at < length area) where
-  pub stand-end : get_or area at 0 ≡ 0 → PairAt.End ≡ place_of at (stand_at (drop at area))
+  pub stand-end : get_or area at 0 ≡ 0 → Ok None ≡ stands_at area at
   unfolding stand_at place_of
   stand-end e = rw (drop-next area at h, eq-eqb (get_or area at 0) 0 e, stand_at)
 
@@ -168,64 +188,58 @@ module _ (area : List ℕ) (at : ℕ) (h : at < length area) where
     stand-name : stand_at (drop at area) ≡ on_name (scan_name (drop at area))
     stand-name = rw (drop-next area at h) (stand-begun (get_or area at 0 ∷ drop (at + 1) area) b)
 
-    pub stand-cut : Cut ≡ end_of at at (scan_name (drop at area)) → PairAt.Cut ≡ place_of at (stand_at (drop at area))
+    -- a fault in the name
+    pub stand-wrong : (e : Error) → Err e ≡ name_ends area at → Err e ≡ stands_at area at
     unfolding end_of place_of
-    stand-cut e = rw stand-name (go (scan_name (drop at area)) e)
+    stand-wrong e w = rw stand-name (go (scan_name (drop at area)) w)
       where
-        go : (s : Scan) → Cut ≡ end_of at at s → PairAt.Cut ≡ place_of at (on_name s)
-        go short e = refl
-        go (bad k) e = clash cc
-        go (ends name after) e = clash cc
+        go : (s : Scan) → Err e ≡ end_of StoredName (length area) at at s → Err e ≡ place_of (length area) at (on_name s)
+        go short w = cc
+        go (bad k) w = cc
+        go (ends name after) w = clash cc
 
-    pub stand-wrong : (k : ℕ) → Wrong k ≡ end_of at at (scan_name (drop at area)) → PairAt.WrongName k ≡ place_of at (stand_at (drop at area))
-    unfolding end_of place_of
-    stand-wrong k e = rw stand-name (go (scan_name (drop at area)) e)
-      where
-        go : (s : Scan) → Wrong k ≡ end_of at at s → PairAt.WrongName k ≡ place_of at (on_name s)
-        go short e = clash cc
-        go (bad j) e = let f : k ≡ at + j = cc in ap PairAt.WrongName f
-        go (ends name after) e = clash cc
-
-    pub stand-value : (n : ℕ) → NameEnd area at n → (x : ScanEnd) → x ≡ end_of (n + 1) (n + 1) (scan_value false 0 (drop (n + 1) area))
-        → by_value n x ≡ place_of at (stand_at (drop at area))
+    pub stand-value : (n : ℕ) → NameEnd area at n → (x : Result ℕ Error) → x ≡ value_ends area n → by_value at n x ≡ stands_at area at
     stand-value n t x e =
-        ap (by_value n) e ∙ value-place at n t.name t.equals (scan_value false 0 (drop (n + 1) area))
-        ∙ ap (λ (l : List ℕ). place_of at (on_value t.name (scan_value false 0 l))) (sym t.follows)
-        ∙ ap (λ (s : Scan). place_of at (on_name s)) (sym t.scan) ∙ ap (place_of at) (sym stand-name)
+        ap (by_value at n) e ∙ value-place (length area) at n t.name t.equals (scan_value false 0 (drop (n + 1) area))
+        ∙ ap (λ (l : List ℕ). place_of (length area) at (on_value t.name (scan_value false 0 l))) (sym t.follows)
+        ∙ ap (λ (s : Scan). place_of (length area) at (on_name s)) (sym t.scan) ∙ ap (place_of (length area) at) (sym stand-name)
 
--- a pair that the code has seen: `=` at q and 0x00 at e
-pub record PairSeen (area : List ℕ) (at q e : ℕ) : Type 0 where
+-- the code has seen this pair at `at`
+pub record PairSeen (area : List ℕ) (at : ℕ) (p : Place) : Type 0 where
   pub name : List ℕ
   pub stored : List ℕ
   pub rest : List ℕ
   pub stand : stand_at (drop at area) ≡ pair name stored rest
-  pub equals : q ≡ at + length name
-  pub end : e ≡ q + 1 + length stored
-  pub follows : rest ≡ drop (e + 1) area
-  pub inside : e < length area
+  pub start : p.start ≡ at
+  pub equals : p.equals ≡ at + length name
+  pub end : p.end ≡ p.equals + 1 + length stored
+  pub follows : rest ≡ drop (p.end + 1) area
+  pub inside : p.end < length area
 
-pub pair-seen : (area : List ℕ) (at q e : ℕ) → PairAt.Pair q e ≡ place_of at (stand_at (drop at area)) → PairSeen area at q e
+pub pair-seen : {area : List ℕ} {at : ℕ} {x : Result (Option Place) Error} (p : Place) → x ≡ stands_at area at → x ≡ Ok (Some p) → PairSeen area at p
 unfolding place_of
-pair-seen area at q e h = go (stand_at (drop at area)) refl h
+pair-seen {area} {at} p e f = go (stand_at (drop at area)) refl (sym f ∙ e)
   where
-    go : (s : Stand) → stand_at (drop at area) ≡ s → PairAt.Pair q e ≡ place_of at s → PairSeen area at q e
+    go : (s : Stand) → stand_at (drop at area) ≡ s → Ok (Some p) ≡ place_of (length area) at s → PairSeen area at p
     go finish u h = clash cc
     go cut u h = clash cc
     go (wrong_name k) u h = clash cc
     go (wrong_escape k) u h = clash cc
     go (pair name stored rest) u h =
-        let a : q ≡ at + length name = cc in
-        let b : e ≡ at + length name + 1 + length stored = cc in
-        let p : PairHere (drop at area) name stored rest = pair-here (drop at area) name stored rest u in
-        let w : drop at area ≡ (name ++ 0x3D ∷ stored) ++ 0x00 ∷ rest = p.is ∙ sym (append_assoc name (0x3D ∷ stored) (0x00 ∷ rest)) in
-        let n : e ≡ at + length (name ++ 0x3D ∷ stored) = omega (arith, length-append name (0x3D ∷ stored)) in
+        let r : p ≡ placed at name stored = cc in
+        let a : p.equals ≡ at + length name = ap (λ (x : Place). x.equals) r in
+        let b : p.end ≡ at + length name + 1 + length stored = ap (λ (x : Place). x.end) r in
+        let q : PairHere (drop at area) name stored rest = pair-here (drop at area) name stored rest u in
+        let w : drop at area ≡ (name ++ 0x3D ∷ stored) ++ 0x00 ∷ rest = q.is ∙ sym (append_assoc name (0x3D ∷ stored) (0x00 ∷ rest)) in
+        let n : p.end ≡ at + length (name ++ 0x3D ∷ stored) = omega (arith, length-append name (0x3D ∷ stored)) in
         record {
           name = name;
           stored = stored;
           rest = rest;
           stand = u;
+          start = ap (λ (x : Place). x.start) r;
           equals = a;
           end = omega arith;
-          follows = drop_past area at e (name ++ 0x3D ∷ stored) 0x00 rest w n;
-          inside = past-inside area at e (name ++ 0x3D ∷ stored) 0x00 rest w n;
+          follows = drop_past area at p.end (name ++ 0x3D ∷ stored) 0x00 rest w n;
+          inside = past-inside area at p.end (name ++ 0x3D ∷ stored) 0x00 rest w n;
         }

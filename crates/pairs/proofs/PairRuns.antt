@@ -6,6 +6,7 @@ use native.Mathlib.Omega.{arith}
 use lib.ListN.{length, take, drop, length-append, length-drop}
 use lib.Seq.{take_at}
 use Rattle.lists.specs.Bytes.{Every}
+use Rattle.pairs.specs.declared.Place.{Place}
 use Rattle.pairs.specs.Scan.{pair, stand_at}
 use Rattle.pairs.specs.Area.{Pair, pair_of, pair_bytes, pairs_bytes}
 use Rattle.pairs.proofs.PairPlaces.{Goes, NotZero, pair-here, PairSeen}
@@ -56,13 +57,13 @@ pub walked_none : (area : List ℕ) → Walked area 0 0
 walked_none area = record { pairs = []; run = none; counted = refl; few = omega arith; inside = omega arith }
 
 module _ {area : List ℕ} {at count : ℕ} (w : Walked area at count) where
-  pub walked_more : (q e : ℕ) → PairSeen area at q e → Walked area (e + 1) (count + 1)
-  walked_more q e p = record {
-    pairs = w.pairs ++ pair_of p.name p.stored ∷ [];
-    run = subst (PairRun (w.pairs ++ pair_of p.name p.stored ∷ []) area) p.follows (run-snoc p.name p.stored p.rest w.run p.stand);
-    counted = length-append w.pairs (pair_of p.name p.stored ∷ []) ∙ omega (arith, w.counted);
-    few = omega (arith, w.few, p.equals, p.end);
-    inside = omega (arith, p.inside);
+  pub walked_more : {p : Place} → PairSeen area at p → Walked area (p.end + 1) (count + 1)
+  walked_more {p} s = record {
+    pairs = w.pairs ++ pair_of s.name s.stored ∷ [];
+    run = subst (PairRun (w.pairs ++ pair_of s.name s.stored ∷ []) area) s.follows (run-snoc s.name s.stored s.rest w.run s.stand);
+    counted = length-append w.pairs (pair_of s.name s.stored ∷ []) ∙ omega (arith, w.counted);
+    few = omega (arith, w.few, s.equals, s.end);
+    inside = omega (arith, s.inside);
   }
 
   pub walked-length : length (pairs_bytes w.pairs) ≡ at

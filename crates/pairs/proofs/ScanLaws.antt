@@ -15,8 +15,7 @@ use Rattle.names.proofs.NameLaws.{name-not-zero}
 use Rattle.values.specs.Value.{spelled, spelled_from}
 use Rattle.pairs.specs.Scan.{Scan, ends, bad, short, and, scan_name, scan_value, Stand, pair, finish, cut, wrong_name, wrong_escape, on_value, on_name, stand_at}
 use Rattle.pairs.specs.Rules.{UpToEquals}
-use Rattle.pairs.proofs.NameScans.{and-ends, and-short, and-bad, bad-is, scan-name, cut-scan, wrong-scan, ScannedName}
-use Rattle.pairs.proofs.NameScans.{a-name, a-wrong, a-cut, scanned-name}
+use Rattle.pairs.proofs.NameScans.{and-ends, and-short, and-bad, bad-is, scan-name, cut-scan, wrong-scan, ScannedName, a-name, a-wrong, a-cut, scanned-name}
 
 -- ---- a stored value, byte by byte; after: the byte before was an escape's 0xFF
 

@@ -11,27 +11,28 @@ use lib.ListN.{length, get_or, drop, length-drop, drop_of_length-le}
 use lib.Seq.{get_or-drop, drop-drop}
 use borrow.Author.Tests.{eq-eqb, ne_eqb, eqb-true, eqb-false, leb-true, leb-false, le-leb, lt-leb}
 use Rattle.lists.proofs.Tests.{split, clash}
-use Rattle.names.specs.declared.NameCheck.{NameCheck}
-use Rattle.names.specs.declared.NameCheck.TheVariants as Names
-use Rattle.names.specs.Name.{name_byte, name_check}
+use Rattle.names.specs.Name.{NameCheck, good, wrong, name_byte, name_check}
 use Rattle.names.specs.Helpers.{allowed_ahead, check_by_allowed}
 use Rattle.names.proofs.NameLaws.{not_byte}
 use Rattle.names.proofs.AheadLaws.{ahead_none, ahead-here, ahead-next, ahead-short, check-by-allowed, allowed-good}
 use Rattle.lists.proofs.ListLaws.{drop-next}
 use Rattle.lists.specs.Helpers.{until_either}
 use Rattle.lists.proofs.FindLaws.{until-short, either-ahead, either-there, either-before}
-use Rattle.pairs.specs.declared.ScanEnd.TheVariants.{At, Wrong, Cut}
+use Rattle.std.specs.Prelude.{Ok, Err}
+use Rattle.errors.specs.declared.AreaFault.{AreaFault}
+use Rattle.errors.specs.declared.AreaFault.TheVariants.{StoredName, Escape}
+use Rattle.errors.specs.declared.Error.TheVariants.{BadArea}
 use Rattle.pairs.specs.Scan.{Scan, ends, bad, short, and, stored_name, past_name, scan_name, scan_value}
 use Rattle.pairs.specs.Rules.{UpToEquals}
-use Rattle.pairs.specs.Helpers.{ends_at, end_of}
+use Rattle.pairs.specs.Helpers.{ends_at, cut_off, end_of}
 use Rattle.pairs.proofs.NameScans.{stored-none, stored-equals, stored_next, stored-exactly, up-short, up-inside, up-after, scan_good, scan-wrong}
 
 -- one byte more in front
-end_and : (from at b : ℕ) (s : Scan) → end_of from at (and b s) ≡ end_of from (at + 1) s
+end_and : (fault : AreaFault) (long from at b : ℕ) (s : Scan) → end_of fault long from at (and b s) ≡ end_of fault long from (at + 1) s
 unfolding end_of
-end_and from at b (ends bs rest) = let e : at + suc (length bs) ≡ at + 1 + length bs = omega arith in ap At e
-end_and from at b (bad k) = refl
-end_and from at b short = refl
+end_and fault long from at b (ends bs rest) = let e : at + suc (length bs) ≡ at + 1 + length bs = omega arith in ap Ok e
+end_and fault long from at b (bad k) = refl
+end_and fault long from at b short = refl
 
 -- ---- a stored name, by the first byte that a name may not hold
 
@@ -108,11 +109,11 @@ module _ (area : List ℕ) (from r : ℕ) (e : r ≡ from + allowed_ahead (drop 
     checked : {x : NameCheck} → x ≡ check_by_allowed (r - from) whole → name_check (stored_name left) ≡ x
     checked w = sym (w ∙ ap (check_by_allowed (r - from)) u ∙ stored-check)
 
-    pub name-wrong : (i : ℕ) → Names.Wrong i ≡ check_by_allowed (r - from) whole → Wrong (from + i) ≡ end_of from from (scan_name (drop from area))
+    pub name-wrong : (i : ℕ) → wrong i ≡ check_by_allowed (r - from) whole → Err (BadArea StoredName (from + i)) ≡ end_of StoredName (length area) from from (scan_name (drop from area))
     unfolding end_of
-    name-wrong i w = ap (end_of from from) (sym (scan-wrong left i (checked w)))
+    name-wrong i w = ap (end_of StoredName (length area) from from) (sym (scan-wrong left i (checked w)))
 
-    module _ (w : Names.Good ≡ check_by_allowed (r - from) whole) where
+    module _ (w : good ≡ check_by_allowed (r - from) whole) where
       long : length (stored_name left) ≡ r - from
       long = omega (arith, ends-whole (sym u ∙ allowed-good (r - from) whole w), stored-ahead left, ahead-short (stored_name left))
 
@@ -124,36 +125,36 @@ module _ (area : List ℕ) (from r : ℕ) (e : r ≡ from + allowed_ahead (drop 
       found : scan_name left ≡ past_name (stored_name left) (drop r area)
       found = scan_good left (checked w) ∙ ap (past_name (stored_name left)) past
 
-      pub name-at : r < length area → At r ≡ end_of from from (scan_name (drop from area))
+      pub name-at : r < length area → Ok r ≡ end_of StoredName (length area) from from (scan_name (drop from area))
       unfolding end_of
       name-at h =
           let q : r ≡ from + length (stored_name left) = omega (arith, long) in
-          ap At q ∙ ap (end_of from from) (sym (found ∙ ap (past_name (stored_name left)) (drop-next area r h)))
+          ap Ok q ∙ ap (end_of StoredName (length area) from from) (sym (found ∙ ap (past_name (stored_name left)) (drop-next area r h)))
 
-      pub name-cut : length area ≤ r → Cut ≡ end_of from from (scan_name (drop from area))
+      pub name-cut : length area ≤ r → Err (cut_off (length area)) ≡ end_of StoredName (length area) from from (scan_name (drop from area))
       unfolding end_of
-      name-cut h = ap (end_of from from) (sym (found ∙ ap (past_name (stored_name left)) (drop_of_length-le area h)))
+      name-cut h = ap (end_of StoredName (length area) from from) (sym (found ∙ ap (past_name (stored_name left)) (drop_of_length-le area h)))
 
 -- the scan of a value that began at `from` has come to i
 pub record ValueScan (area : List ℕ) (from : ℕ) (after : Bool) (i : ℕ) : Type 0 where
   pub low : from ≤ i
-  pub left : end_of from from (scan_value false 0 (drop from area)) ≡ end_of from i (scan_value after (i - from) (drop i area))
+  pub left : end_of Escape (length area) from from (scan_value false 0 (drop from area)) ≡ end_of Escape (length area) from i (scan_value after (i - from) (drop i area))
 
 pub value-begun : (area : List ℕ) (from : ℕ) → ValueScan area from false from
 value-begun area from = record { low = omega arith; left = rw (sub_self from) }
 
 pub value-cut : {area : List ℕ} {from i : ℕ} {after : Bool} → ValueScan area from after i → length area ≤ i
-    → Cut ≡ end_of from from (scan_value false 0 (drop from area))
+    → Err (cut_off (length area)) ≡ end_of Escape (length area) from from (scan_value false 0 (drop from area))
 unfolding scan_value end_of
 value-cut {area} {after = true} s h = sym (s.left ∙ rw (drop_of_length-le area h))
 value-cut {area} {after = false} s h = sym (s.left ∙ rw (drop_of_length-le area h))
 
 module _ {area : List ℕ} {from i : ℕ} (s : ValueScan area from false i) (h : i < length area) where
-  pub value-ends : get_or area i 0 ≡ 0 → At i ≡ end_of from from (scan_value false 0 (drop from area))
+  pub value-ends : get_or area i 0 ≡ 0 → Ok i ≡ end_of Escape (length area) from from (scan_value false 0 (drop from area))
   unfolding scan_value end_of
   value-ends b =
       let p : i + 0 ≡ i = omega arith in
-      sym (s.left ∙ rw (drop-next area i h, eq-eqb (get_or area i 0) 0 b, scan_value) (ap At p))
+      sym (s.left ∙ rw (drop-next area i h, eq-eqb (get_or area i 0) 0 b, scan_value) (ap Ok p))
 
   value-step : (get_or area i 0 ≡ 0 → ⊥) → (t : Bool) → eqb (get_or area i 0) 255 ≡ t → ValueScan area from t (i + 1)
   unfolding scan_value
@@ -164,8 +165,8 @@ module _ {area : List ℕ} {from i : ℕ} (s : ValueScan area from false i) (h :
         left =
             s.left
             ∙ rw (drop-next area i h, ne_eqb (get_or area i 0) 0 b, e, scan_value)
-            (end_and from i (get_or area i 0) (scan_value t (i - from + 1) (drop (i + 1) area))
-            ∙ ap (λ (n : ℕ). end_of from (i + 1) (scan_value t n (drop (i + 1) area))) p);
+            (end_and Escape (length area) from i (get_or area i 0) (scan_value t (i - from + 1) (drop (i + 1) area))
+            ∙ ap (λ (n : ℕ). end_of Escape (length area) from (i + 1) (scan_value t n (drop (i + 1) area))) p);
       }
 
   pub value-next : (get_or area i 0 ≡ 0 → ⊥) → (get_or area i 0 ≡ 255 → ⊥) → ValueScan area from false (i + 1)
@@ -196,11 +197,11 @@ zero-run : (c : ℕ) → c < 256 → c % 128 ≡ 0 → (eqb c 0 || eqb c 128) �
 zero-run c h e = split (eqb c 0) (λ t. rw t) (λ t. let z : c ≡ 0 → ⊥ = eqb-false c 0 t in rw (t, eq-eqb c 128 (omega arith)))
 
 module _ {area : List ℕ} {from i : ℕ} (s : ValueScan area from true i) (h : i < length area) where
-  pub escape-wrong : get_or area i 0 < 256 → get_or area i 0 % 128 ≡ 0 → Wrong i ≡ end_of from from (scan_value false 0 (drop from area))
+  pub escape-wrong : get_or area i 0 < 256 → get_or area i 0 % 128 ≡ 0 → Err (BadArea Escape i) ≡ end_of Escape (length area) from from (scan_value false 0 (drop from area))
   unfolding scan_value end_of
   escape-wrong k b =
       let p : from + (i - from) ≡ i = omega (arith, s.low) in
-      sym (s.left ∙ rw (drop-next area i h, zero-run (get_or area i 0) k b, scan_value) (ap Wrong p))
+      sym (s.left ∙ rw (drop-next area i h, zero-run (get_or area i 0) k b, scan_value) (ap (λ (j : ℕ). Err (BadArea Escape j)) p))
 
   pub escape-next : (get_or area i 0 % 128 ≡ 0 → ⊥) → ValueScan area from false (i + 1)
   unfolding scan_value
@@ -211,6 +212,6 @@ module _ {area : List ℕ} {from i : ℕ} (s : ValueScan area from true i) (h : 
         left =
             s.left
             ∙ rw (drop-next area i h, ne_eqb (get_or area i 0) 0 (λ z. b (omega arith)), ne_eqb (get_or area i 0) 128 (λ z. b (omega arith)), scan_value)
-            (end_and from i (get_or area i 0) (scan_value false (i - from + 1) (drop (i + 1) area))
-            ∙ ap (λ (n : ℕ). end_of from (i + 1) (scan_value false n (drop (i + 1) area))) p);
+            (end_and Escape (length area) from i (get_or area i 0) (scan_value false (i - from + 1) (drop (i + 1) area))
+            ∙ ap (λ (n : ℕ). end_of Escape (length area) from (i + 1) (scan_value false n (drop (i + 1) area))) p);
       }

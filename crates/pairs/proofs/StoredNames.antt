@@ -14,8 +14,7 @@ use Rattle.errors.specs.declared.AreaFault.TheVariants.{StoredName}
 use Rattle.names.specs.Rules.{NameByte, FirstWrong, empty, byte}
 use Rattle.names.proofs.NameLaws.{name-not-zero}
 use Rattle.pairs.specs.Scan.{stored_name}
-use Rattle.pairs.specs.Rules.{Entry, sizes, UpToEquals, by-equals, FaultAt, eight}
-use Rattle.pairs.specs.Rules.{Decides, not-allowed, equals-at-once, thirty-second, DecidedAt}
+use Rattle.pairs.specs.Rules.{Entry, sizes, UpToEquals, by-equals, FaultAt, eight, Decides, not-allowed, equals-at-once, thirty-second, DecidedAt}
 use Rattle.pairs.proofs.NameScans.{up_next, stored-exactly, up_start, up-clean, up-after}
 use Rattle.pairs.proofs.ScanLaws.{Begun}
 

@@ -5,58 +5,24 @@ ghost use Rattle.std.specs.Prelude.{◌≡◌, false, ◌≤◌, length, take, d
 ghost use Rattle.repeats.specs.Pieces.{first_repeat};
 ghost use Rattle.pairs.specs.Scan.{scan_name, scan_value, stand_at};
 ghost use Rattle.pairs.specs.Area.{parse};
-ghost use Rattle.pairs.specs.Helpers.{ends_at, end_of, place_of, or_repeat, scanned_of, closed_of, first_place, find_at};
+ghost use Rattle.pairs.specs.Helpers.{ends_at, cut_off, end_of, place_of, unrepeated, scanned_of, find_at};
 
 use errors::{AreaFault, Error};
-use names::NameCheck;
-use repeats::Repeat;
 
-// Where a scan of a name or of a value ends.
+// Where a pair stands: the offsets of its name, of its `=` and of its 0x00.
 #[derive(Clone, Copy)]
-enum ScanEnd {
-    // The byte that ends it stands here.
-    At(usize),
-    // The first byte that breaks the rule stands here.
-    Wrong(usize),
-    // The area ends first.
-    Cut,
+pub struct Place {
+    pub start: usize,
+    pub equals: usize,
+    pub end: usize,
 }
 
-// What stands at an offset of the area.
+// An area without a fault: the number of its pairs, the offset of the ending 0x00, and the first pair of the name that was sought.
 #[derive(Clone, Copy)]
-pub enum PairAt {
-    // A pair: the offsets of its `=` and of its 0x00.
-    Pair { equals: usize, end: usize },
-    // The ending 0x00.
-    End,
-    // The area ends inside a pair, or where a pair or the end should begin.
-    Cut,
-    // The byte of a name that breaks the name rule.
-    WrongName(usize),
-    // The byte after 0xFF that is 0x00 or 0x80.
-    WrongEscape(usize),
-}
-
-// The whole area: the number of its pairs, the offset of the ending 0x00 and the pair that was sought, or its first fault.
-#[derive(Clone, Copy)]
-pub enum Scanned {
-    Pairs {
-        count: usize,
-        used: usize,
-        place: Place,
-    },
-    Refused(Error),
-}
-
-// The first pair of a name: the offsets of its name, of its `=` and of its 0x00.
-#[derive(Clone, Copy)]
-pub enum Place {
-    At {
-        start: usize,
-        equals: usize,
-        end: usize,
-    },
-    None,
+pub struct Scanned {
+    pub count: usize,
+    pub used: usize,
+    pub place: Option<Place>,
 }
 
 // Whether a stored name ends at an offset: its `=` stands there, or the area ends.
@@ -69,138 +35,124 @@ fn ends_at(area: &[u8], at: usize) -> bool
     area[at] == b'='
 }
 
+// The fault of an area of so many bytes that ends inside a pair, or where a pair or the end should begin.
+fn cut_off(len: usize) -> Error
+    ensures { result ≡ cut_off len }
+{
+    Error::BadArea {
+        fault: AreaFault::AreaEnd,
+        at: len,
+    }
+}
+
 // Scans a name up to its `=`, and checks it as a caller's is.
-fn scan_name(area: &[u8], from: usize) -> ScanEnd
-    ensures { result ≡ end_of from from (scan_name (drop from area.now)) }
+fn scan_name(area: &[u8], from: usize) -> Result<usize, Error>
+    ensures { result ≡ end_of AreaFault.StoredName (length area.now) from from (scan_name (drop from area.now)) }
 {
     let end = names::name_end(area, from);
-    match names::check_by_allowed(end - from, ends_at(area, end)) {
-        NameCheck::Wrong { at } => ScanEnd::Wrong(from + at),
-        NameCheck::Good => {
-            if area.len() <= end {
-                return ScanEnd::Cut;
-            }
-            ScanEnd::At(end)
-        }
+    if let Err(wrong) = names::check_by_allowed(end - from, ends_at(area, end)) {
+        return Err(Error::BadArea {
+            fault: AreaFault::StoredName,
+            at: from + wrong.at,
+        });
+    }
+    if end < area.len() {
+        Ok(end)
+    } else {
+        Err(cut_off(area.len()))
     }
 }
 
 // Scans a stored value up to its 0x00.
-fn scan_value(area: &[u8], from: usize) -> ScanEnd
-    ensures { result ≡ end_of from from (scan_value false 0 (drop from area.now)) }
+fn scan_value(area: &[u8], from: usize) -> Result<usize, Error>
+    ensures { result ≡ end_of AreaFault.Escape (length area.now) from from (scan_value false 0 (drop from area.now)) }
 {
     let mut i = from;
+    // A turn takes the plain bytes, which the search passes over, and one escape of two bytes: no iterator steps so.
     loop {
-        i = lists::find_either(area, i, 0, 255);
+        i = lists::find_either(area, i, 0x00, 0xFF);
         if area.len() <= i {
-            break ScanEnd::Cut;
+            break Err(cut_off(area.len()));
         }
         if area[i] == 0 {
-            break ScanEnd::At(i);
+            break Ok(i);
         }
         i += 1;
         if area.len() <= i {
-            break ScanEnd::Cut;
+            break Err(cut_off(area.len()));
         }
         if area[i] % 128 == 0 {
-            break ScanEnd::Wrong(i);
+            break Err(Error::BadArea {
+                fault: AreaFault::Escape,
+                at: i,
+            });
         }
         i += 1;
     }
 }
 
-// What stands at an offset where a pair or the end should begin.
-pub fn pair_at(area: &[u8], at: usize) -> PairAt
-    ensures { result ≡ place_of at (stand_at (drop at area.now)) }
+// The pair at an offset where a pair or the end should begin; none where the ending 0x00 stands.
+pub fn pair_at(area: &[u8], at: usize) -> Result<Option<Place>, Error>
+    ensures { result ≡ place_of (length area.now) at (stand_at (drop at area.now)) }
 {
     if area.len() <= at {
-        return PairAt::Cut;
+        return Err(cut_off(area.len()));
     }
     if area[at] == 0 {
-        return PairAt::End;
+        return Ok(None);
     }
-    match scan_name(area, at) {
-        ScanEnd::Cut => PairAt::Cut,
-        ScanEnd::Wrong(k) => PairAt::WrongName(k),
-        ScanEnd::At(n) => match scan_value(area, n + 1) {
-            ScanEnd::Cut => PairAt::Cut,
-            ScanEnd::Wrong(k) => PairAt::WrongEscape(k),
-            ScanEnd::At(v) => PairAt::Pair { equals: n, end: v },
-        },
-    }
+    let equals = scan_name(area, at)?;
+    let end = scan_value(area, equals + 1)?;
+    Ok(Some(Place {
+        start: at,
+        equals,
+        end,
+    }))
 }
 
-// An area with a fault, decided at an offset.
-fn refused(fault: AreaFault, at: usize) -> Scanned
-    ensures { result ≡ Scanned.Refused (Error.BadArea fault at) }
-{
-    Scanned::Refused(Error::BadArea { fault, at })
-}
-
-// A repeat among the complete pairs, which end at `at`, goes before what stands after them.
-fn or_repeat(area: &[u8], at: usize, out: Scanned) -> Scanned
+// Refuses a name that stands twice among the complete pairs, which end at `at`.
+fn unrepeated(area: &[u8], at: usize) -> Result<(), Error>
     requires { at ≤ length area.now }
-    ensures { result ≡ or_repeat (first_repeat (take at area.now)) out }
+    ensures { result ≡ unrepeated (first_repeat (take at area.now)) }
 {
     match repeats::first_repeat(&area[..at]) {
-        Repeat::At(later) => refused(AreaFault::Repeated, later),
-        Repeat::None => out,
-    }
-}
-
-// What ends the pairs, where `count` of them stand before `at`; a pair does not come here.
-fn closed(seen: PairAt, long: usize, count: usize, at: usize, place: Place) -> Scanned
-    ensures { result ≡ closed_of seen long count at place }
-{
-    match seen {
-        PairAt::Pair { equals: _, end: _ } => refused(AreaFault::AreaEnd, long),
-        PairAt::End => Scanned::Pairs {
-            count: count,
-            used: at,
-            place: place,
-        },
-        PairAt::Cut => refused(AreaFault::AreaEnd, long),
-        PairAt::WrongName(k) => refused(AreaFault::StoredName, k),
-        PairAt::WrongEscape(k) => refused(AreaFault::Escape, k),
-    }
-}
-
-// The first place, or else the second.
-fn first_place(place: Place, other: Place) -> Place
-    ensures { result ≡ first_place place other }
-{
-    match place {
-        Place::At { start, equals, end } => Place::At { start, equals, end },
-        Place::None => other,
+        Some(later) => Err(Error::BadArea {
+            fault: AreaFault::Repeated,
+            at: later,
+        }),
+        None => Ok(()),
     }
 }
 
 // Scans the whole area once: its pairs up to the ending 0x00 with the first pair of that name, or its first fault.
-pub fn scan(area: &[u8], name: &[u8]) -> Scanned
+pub fn scan(area: &[u8], name: &[u8]) -> Result<Scanned, Error>
     ensures { result ≡ scanned_of (parse area.now) (find_at area.now name.now) }
 {
     let mut at = 0;
     let mut count = 0;
-    let mut place = Place::None;
+    let mut place = None;
+    // The paper names this form: the name comparison nested in the pair scan, and left by a label.
     'pairs: loop {
         let seen = pair_at(area, at);
-        let PairAt::Pair { equals, end } = seen else {
-            let out = closed(seen, area.len(), count, at, place);
-            break 'pairs or_repeat(area, at, out);
+        let Ok(Some(pair)) = seen else {
+            unrepeated(area, at)?; // a repeat goes before the fault that ends the pairs
+            seen?;
+            break 'pairs Ok(Scanned {
+                count,
+                used: at,
+                place,
+            });
         };
-        let start = at;
-        at = end + 1;
+        at = pair.end + 1;
         count += 1;
-        if equals - start != name.len() {
+        if pair.equals - pair.start != name.len() {
             continue 'pairs;
         }
-        let mut k = 0;
-        while k < name.len() {
-            if area[start + k] != name[k] {
+        for (k, byte) in name.iter().enumerate() {
+            if area[pair.start + k] != *byte {
                 continue 'pairs;
             }
-            k += 1;
         }
-        place = first_place(place, Place::At { start, equals, end });
+        place = place.or(Some(pair));
     }
 }

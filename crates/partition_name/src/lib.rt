@@ -11,7 +11,7 @@ const NAME_SIZE: usize = 12;
 fn padded_byte(name: &[u8], i: usize) -> u8
     ensures { result ≡ get_or name.now i 0 }
 {
-    if i < name.len() { name[i] } else { 0 }
+    name.get(i).copied().unwrap_or(0)
 }
 
 // Whether a stored name matches the one that a caller gives: this one is padded with 0x00, and both end at their first 0x00; a
@@ -19,22 +19,17 @@ fn padded_byte(name: &[u8], i: usize) -> u8
 pub fn matches_name(stored: &[u8], given: &[u8]) -> bool
     ensures { result ≡ matches_name stored.now given.now }
 {
-    if stored.len() != NAME_SIZE {
+    if stored.len() != NAME_SIZE || NAME_SIZE < given.len() {
         return false;
     }
-    if NAME_SIZE < given.len() {
-        return false;
-    }
-    let mut i = 0;
-    while i < NAME_SIZE {
+    for (i, b) in stored.iter().enumerate() {
         let byte = padded_byte(given, i);
-        if stored[i] != byte {
+        if *b != byte {
             return false;
         }
         if byte == 0 {
             return true;
         }
-        i += 1;
     }
     true
 }

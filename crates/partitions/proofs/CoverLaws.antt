@@ -12,14 +12,13 @@ use Rattle.lists.proofs.Tests.{split, clash, and-true}
 use Rattle.errors.specs.declared.Error.{Error}
 use Rattle.errors.specs.declared.HeaderFault.{HeaderFault}
 use Rattle.errors.specs.declared.Error.TheVariants.{BadHeader}
-use Rattle.header.specs.declared.Validity.TheVariants.{Valid, Invalid}
 use Rattle.header.specs.Header.{byte_at, validity_at}
 use Rattle.header.specs.Rules.{Sound, Breaks}
 use Rattle.header.proofs.RuleLaws.{blocks-read, signature-read, valid-exactly, invalid-exactly, sound-valid, breaks-invalid, sound-checksum}
 use Rattle.header.proofs.ValidityLaws.{invalid-here}
 use Rattle.partitions.specs.declared.Partition.{Partition}
-use Rattle.partitions.specs.declared.Checked.TheVariants.{Accepted as Accepts, Refused as Refuses}
-use Rattle.partitions.specs.Walk.{allowed_length, partition_of, past_of, Walk, covered, broken, first, walk}
+use Rattle.std.specs.Prelude.{Ok, Err}
+use Rattle.partitions.specs.Walk.{allowed_length, onward, partition_of, past_of, Walk, covered, broken, first, walk}
 use Rattle.partitions.specs.Find.{checked_by, check_of}
 use Rattle.partitions.specs.Cover.{LengthRule, partition_at, past_at, Cover, here, next, Accepted, PartitionCount, Rejected, one, header, Indexed}
 use Rattle.partitions.proofs.StepLaws.{step_end, step-next, step-broken}
@@ -81,7 +80,7 @@ module _ (image : List ℕ) (bytes : AllBytes image) where
 
   sound-rest : (at : ℕ) → Sound image at → rest image at ≡ first (partition_at image at) (rest image (past_at image at))
   sound-rest at s =
-      rest-next image at (partition_of image at) (record { at = past_of image at })
+      rest-next image at (onward image at)
       (step-next image at (sound-inside at s) (sound-valid image at bytes s))
       ∙ (λ i. first (partition-same image at i) (rest image (past_same image at i)))
 
@@ -110,15 +109,15 @@ module _ (image : List ℕ) (bytes : AllBytes image) where
   outcome-first a s (covered ps) (complete c) = complete (next s c)
   outcome-first a s (broken e) (stopped c l x) = stopped (next s c) l x
 
-  outcome-next : (at : ℕ) → validity_at image at ≡ Valid → (w : Walk) → Outcome (past_of image at) w → Outcome at (first (partition_of image at) w)
+  outcome-next : (at : ℕ) → validity_at image at ≡ Ok tt → (w : Walk) → Outcome (past_of image at) w → Outcome at (first (partition_of image at) w)
   outcome-next at v w o =
       rw (partition-same image at)
       (outcome-first at ((valid-exactly image at bytes).0 v) w (subst (λ (k : ℕ). Outcome k w) (past_same image at) o))
 
-  outcome-stop : (at : ℕ) → at < length image → (e : Error) → validity_at image at ≡ Invalid e → Outcome at (broken e)
+  outcome-stop : (at : ℕ) → at < length image → (e : Error) → validity_at image at ≡ Err e → Outcome at (broken e)
   outcome-stop at l e v =
       let h = invalid-here image at e v in
-      rw h.1 (stopped here l ((invalid-exactly image at bytes h.0).0 (v ∙ ap Invalid h.1)))
+      rw h.1 (stopped here l ((invalid-exactly image at bytes h.0).0 (v ∙ ap Err h.1)))
 
   rest-outcome : Outcome 0 (rest image 0)
   rest-outcome = rest-by-steps image Outcome (complete here) (λ at l v w o. outcome-next at v w o) outcome-stop
@@ -166,18 +165,18 @@ module _ (image : List ℕ) (bytes : AllBytes image) where
       same e = cc
 
   -- the count answered is the number of partitions in the cover
-  pub check-accepts : (n : ℕ) → (check_of image ≡ Accepts n) ↔ PartitionCount image n
+  pub check-accepts : (n : ℕ) → (check_of image ≡ Ok n) ↔ PartitionCount image n
   unfolding check_of checked_by
-  check-accepts n = (go (walk image) walked, λ k. ap checked_by ((accepted-exactly k.all).1 k.accepted) ∙ ap Accepts k.counted)
+  check-accepts n = (go (walk image) walked, λ k. ap checked_by ((accepted-exactly k.all).1 k.accepted) ∙ ap Ok k.counted)
     where
-      go : (w : Walk) → Walked w → checked_by w ≡ Accepts n → PartitionCount image n
+      go : (w : Walk) → Walked w → checked_by w ≡ Ok n → PartitionCount image n
       go (covered ps) (accepts a) e = record { all = ps; accepted = a; counted = cc }
       go (broken x) (rejects r) e = clash (cc)
 
-  pub check-refuses : (e : Error) → (check_of image ≡ Refuses e) ↔ Rejected image e
+  pub check-refuses : (e : Error) → (check_of image ≡ Err e) ↔ Rejected image e
   unfolding check_of checked_by
   check-refuses e = (go (walk image) walked, λ r. ap checked_by (rejected-broken r))
     where
-      go : (w : Walk) → Walked w → checked_by w ≡ Refuses e → Rejected image e
+      go : (w : Walk) → Walked w → checked_by w ≡ Err e → Rejected image e
       go (covered ps) (accepts a) q = clash (cc)
       go (broken x) (rejects r) q = let p : x ≡ e = cc in rw p at r

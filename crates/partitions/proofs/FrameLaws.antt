@@ -13,19 +13,14 @@ use Rattle.lists.proofs.Tests.{split, clash}
 use Rattle.lists.proofs.ByteLaws.{every_drop, every_take}
 use Rattle.lists.proofs.PastedLaws.{length-pasted, take-pasted-before, drop-pasted-after, drop-pasted-at, bytes-pasted}
 use Rattle.header.specs.declared.Blocks.{Blocks}
-use Rattle.header.specs.declared.Validity.{Validity}
-use Rattle.header.specs.declared.Validity.TheVariants.{Valid, Invalid}
-use Rattle.header.specs.Header.{header_at, bytes_of, validity_at}
+use Rattle.header.specs.Header.{Validity, header_at, bytes_of, validity_at}
 use Rattle.header.specs.Rules.{blocks_at}
 use Rattle.header.proofs.RuleLaws.{blocks-read}
 use Rattle.header.proofs.SameLaws.{header-before, header-after, blocks-same, validity-same}
 use Rattle.partitions.specs.declared.Partition.{Partition}
-use Rattle.partitions.specs.declared.Step.{Step}
-use Rattle.partitions.specs.declared.Step.TheVariants.{Next, End, Broken}
-use Rattle.partitions.specs.declared.Found.{Found}
-use Rattle.partitions.specs.declared.Found.TheVariants.{At, Refused}
-use Rattle.partitions.specs.Walk.{partition_of, past_of, step_at, Walk, covered, broken, first, on_step, walk_from, allowed_length, walk}
-use Rattle.partitions.specs.Find.{matches, first_match, only_unless, only_match, only_by, only_of, area_of}
+use Rattle.partitions.specs.Walk.{Stepped, onward, partition_of, past_of, step_at, Walk, covered, broken, first, on_step, walk_from, allowed_length, walk}
+use Rattle.std.specs.Prelude.{Ok, Err, Some, None}
+use Rattle.partitions.specs.Find.{Found, matches, first_match, only_unless, only_match, only_by, only_of, area_of}
 use Rattle.partitions.specs.Cover.{past_at, area_at, OutsideKept}
 use Rattle.partitions.proofs.WalkLaws.{View, ends, goes, breaks, view, past-bounds}
 use Rattle.partitions.proofs.AreaLaws.{Among, among-inside, area-long, area-back}
@@ -38,14 +33,17 @@ module _ (I J : List ℕ) (l : length I ≡ length J) where
   step_same a h = by-validity (validity_at I a) refl
     where
       by-validity : (v : Validity) → validity_at I a ≡ v → step_at I a ≡ step_at J a
-      by-validity Valid e =
-          let f : validity_at J a ≡ Valid = sym (validity-same I J l a h) ∙ e in
+      by-validity (Ok _) e =
+          let f : validity_at J a ≡ Ok tt = sym (validity-same I J l a h) ∙ e in
           rw (e, f)
-          (λ i. cond (leb (l i) a) End
-          (Next (record { offset = a; blocks = (h i).length; signature = (h i).signature }) (record { at = a + (bytes_of (h i).length).0 })))
-      by-validity (Invalid x) e =
-          let f : validity_at J a ≡ Invalid x = sym (validity-same I J l a h) ∙ e in
-          rw (e, f) (λ i. cond (leb (l i) a) End (Broken x))
+          (λ i. cond (leb (l i) a) (Ok None)
+          (Ok (Some (record {
+            here = record { offset = a; blocks = (h i).length; signature = (h i).signature };
+            next = record { at = a + (bytes_of (h i).length).0 };
+          }))))
+      by-validity (Err x) e =
+          let f : validity_at J a ≡ Err x = sym (validity-same I J l a h) ∙ e in
+          rw (e, f) (λ i. cond (leb (l i) a) (Ok None) (Err x))
 
   -- past an offset from which on all headers are the same
   walk_after : (low : ℕ) → ((b : ℕ) → low ≤ b → header_at I b ≡ header_at J b) → (n a : ℕ) → low ≤ a → walk_from n I a ≡ walk_from n J a
@@ -53,11 +51,11 @@ module _ (I J : List ℕ) (l : length I ≡ length J) where
   walk_after low e zero a h = refl
   walk_after low e (suc n) a h = go (step_at I a) (view I a) (step_same a (e a h)) (walk_after low e n (past_of I a))
     where
-      go : (s : Step) → View I a s → s ≡ step_at J a → (low ≤ past_of I a → walk_from n I (past_of I a) ≡ walk_from n J (past_of I a))
+      go : (s : Stepped) → View I a s → s ≡ step_at J a → (low ≤ past_of I a → walk_from n I (past_of I a) ≡ walk_from n J (past_of I a))
           → on_step s (λ past. walk_from n I past) ≡ on_step (step_at J a) (λ past. walk_from n J past)
-      go End (ends z) q ih = rw (← q)
-      go (Next p c) (goes z v) q ih = rw (← q) (ap (first (partition_of I a)) (ih (omega (arith, past-bounds I a z v))))
-      go (Broken x) (breaks z v) q ih = rw (← q)
+      go (Ok None) (ends z) q ih = rw (← q)
+      go (Ok (Some s)) (goes z v) q ih = rw (← q) (ap (first (partition_of I a)) (ih (omega (arith, past-bounds I a z v))))
+      go (Err x) (breaks z v) q ih = rw (← q)
 
   match-same : (signature : ℕ) (name : List ℕ) (a : ℕ) → header_at I a ≡ header_at J a → matches I signature name a ≡ matches J signature name a
   unfolding matches
@@ -72,7 +70,7 @@ module _ (I J : List ℕ) (l : length I ≡ length J) where
       → first_match I signature name ps ≡ first_match J signature name ps
   unfolding first_match
   first-same signature name [] h = refl
-  first-same signature name (q ∷ qs) h = λ i. cond (match-same signature name q.offset h.0 i) (At q) (first-same signature name qs h.1 i)
+  first-same signature name (q ∷ qs) h = λ i. cond (match-same signature name q.offset h.0 i) (Ok q) (first-same signature name qs h.1 i)
 
   only_same : (signature : ℕ) (name : List ℕ) (ps : List Partition) → HeadersSame ps
       → only_match I signature name ps ≡ only_match J signature name ps
@@ -95,13 +93,13 @@ module _ (I J : List ℕ) (l : length I ≡ length J) where
   headers-after low e zero a ps h w = clash (cc)
   headers-after low e (suc n) a ps h w = go (step_at I a) (view I a) w (headers-after low e n (past_of I a))
     where
-      go : (s : Step) → View I a s → on_step s (λ past. walk_from n I past) ≡ covered ps
+      go : (s : Stepped) → View I a s → on_step s (λ past. walk_from n I past) ≡ covered ps
           → ((qs : List Partition) → low ≤ past_of I a → walk_from n I (past_of I a) ≡ covered qs → HeadersSame qs) → HeadersSame ps
-      go End (ends z) q ih = none-same ps q
-      go (Next p c) (goes z v) q ih =
+      go (Ok None) (ends z) q ih = none-same ps q
+      go (Ok (Some s)) (goes z v) q ih =
           let k = first-covered (partition_of I a) (walk_from n I (past_of I a)) ps q in
           rw k.2 (e a h, ih k.0 (omega (arith, past-bounds I a z v)) k.1)
-      go (Broken x) (breaks z v) q ih = clash (cc)
+      go (Err x) (breaks z v) q ih = clash (cc)
 
   -- the headers up to that of p are the same, and those from its end on
   module _ (p : Partition)
@@ -116,7 +114,7 @@ module _ (I J : List ℕ) (l : length I ≡ length J) where
         headers : HeadersSame ps
 
       -- the walk's first partition is p
-      both-here : (n a : ℕ) (qs : List Partition) → step_at I a ≡ Next (partition_of I a) (record { at = past_of I a })
+      both-here : (n a : ℕ) (qs : List Partition) → step_at I a ≡ Ok (Some (onward I a))
           → walk_from n I (past_of I a) ≡ covered qs → partition_of I a ≡ p → Both (suc n) a (partition_of I a ∷ qs)
       unfolding walk_from partition_of past_of
       both-here n a qs s w q =
@@ -128,12 +126,12 @@ module _ (I J : List ℕ) (l : length I ≡ length J) where
           record {
             from = omega arith;
             here = sym q ∙ ap (partition_of I) o;
-            walks = ap (λ (x : Step). on_step x (λ past. walk_from n J past)) (sym (step_same a h) ∙ s) ∙ ap (first (partition_of I a)) f;
+            walks = ap (λ (x : Stepped). on_step x (λ past. walk_from n J past)) (sym (step_same a h) ∙ s) ∙ ap (first (partition_of I a)) f;
             headers = (h, headers-after (p.offset + (bytes_of p.blocks).0) hi n (past_of I a) qs past w);
           }
 
       -- p comes later
-      both_later : (n a : ℕ) (qs : List Partition) → step_at I a ≡ Next (partition_of I a) (record { at = past_of I a }) → a ≤ past_of I a
+      both_later : (n a : ℕ) (qs : List Partition) → step_at I a ≡ Ok (Some (onward I a)) → a ≤ past_of I a
           → Both n (past_of I a) qs → Both (suc n) a (partition_of I a ∷ qs)
       unfolding walk_from partition_of
       both_later n a qs s l b =
@@ -142,7 +140,7 @@ module _ (I J : List ℕ) (l : length I ≡ length J) where
           record {
             from = from;
             here = b.here;
-            walks = ap (λ (x : Step). on_step x (λ past. walk_from n J past)) (sym (step_same a h) ∙ s) ∙ ap (first (partition_of I a)) b.walks;
+            walks = ap (λ (x : Stepped). on_step x (λ past. walk_from n J past)) (sym (step_same a h) ∙ s) ∙ ap (first (partition_of I a)) b.walks;
             headers = (h, b.headers);
           }
 
@@ -154,26 +152,26 @@ module _ (I J : List ℕ) (l : length I ≡ length J) where
       both zero a before after e = clash (cc)
       both (suc n) a [] after e = go (step_at I a) (view I a) refl e
         where
-          go : (s : Step) → View I a s → step_at I a ≡ s → on_step s (λ past. walk_from n I past) ≡ covered (p ∷ after)
+          go : (s : Stepped) → View I a s → step_at I a ≡ s → on_step s (λ past. walk_from n I past) ≡ covered (p ∷ after)
               → Both (suc n) a (p ∷ after)
-          go End (ends z) s w = clash (cc)
-          go (Next r c) (goes z v) s w =
+          go (Ok None) (ends z) s w = clash (cc)
+          go (Ok (Some t)) (goes z v) s w =
               let k = first-covered (partition_of I a) (walk_from n I (past_of I a)) (p ∷ after) w in
               let q : partition_of I a ≡ p = cc k.2 in
               both-as k.2 (both-here n a k.0 s k.1 q)
-          go (Broken x) (breaks z v) s w = clash (cc)
+          go (Err x) (breaks z v) s w = clash (cc)
       both (suc n) a (q ∷ before) after e = go (step_at I a) (view I a) refl e (both n (past_of I a) before after)
         where
-          go : (s : Step) → View I a s → step_at I a ≡ s → on_step s (λ past. walk_from n I past) ≡ covered (q ∷ (before ++ p ∷ after))
+          go : (s : Stepped) → View I a s → step_at I a ≡ s → on_step s (λ past. walk_from n I past) ≡ covered (q ∷ (before ++ p ∷ after))
               → (walk_from n I (past_of I a) ≡ covered (before ++ p ∷ after) → Both n (past_of I a) (before ++ p ∷ after))
               → Both (suc n) a (q ∷ (before ++ p ∷ after))
-          go End (ends z) s w ih = clash (cc)
-          go (Next r c) (goes z v) s w ih =
+          go (Ok None) (ends z) s w ih = clash (cc)
+          go (Ok (Some t)) (goes z v) s w ih =
               let k = first-covered (partition_of I a) (walk_from n I (past_of I a)) (q ∷ (before ++ p ∷ after)) w in
               let t : before ++ p ∷ after ≡ k.0 = cc k.2 in
               both-as (k.2 ∙ ap (λ (qs : List Partition). partition_of I a ∷ qs) (sym t))
               (both_later n a (before ++ p ∷ after) s (omega (arith, past-bounds I a z v)) (ih (k.1 ∙ ap covered (sym t))))
-          go (Broken x) (breaks z v) s w ih = clash (cc)
+          go (Err x) (breaks z v) s w ih = clash (cc)
 
 -- ---- a partition of an image
 
@@ -204,7 +202,7 @@ module _ (I : List ℕ) (p : Partition) (m : Among I p) where
   unfolding past_at
   among-past = ap (λ (n : ℕ). p.offset + n * 16) among-blocks
 
-  pub among-area : area_of I (At p) ≡ area_at I p.offset
+  pub among-area : area_of I (Ok p) ≡ area_at I p.offset
   unfolding area_of area_at
   among-area = ap (λ (n : ℕ). take (n * 16 - 16) (drop (p.offset + 16) I)) among-blocks
 
@@ -237,7 +235,7 @@ module _ (I : List ℕ) (p : Partition) (m : Among I p) where
         ∙ ap (only_by I signature name) (sym m.walks)
 
     -- the image is the one before with the new area in its place
-    pub kept-pasted : pasted I (p.offset + 16) (area_of J (At p)) ≡ J
+    pub kept-pasted : pasted I (p.offset + 16) (area_of J (Ok p)) ≡ J
     unfolding pasted area_of
     kept-pasted =
         let i = among-inside J p among-kept in
@@ -253,7 +251,7 @@ module _ (I : List ℕ) (p : Partition) (m : Among I p) where
 
   -- ---- another area as long in its place
 
-  module _ (area : List ℕ) (k : length area ≡ length (area_of I (At p))) where
+  module _ (area : List ℕ) (k : length area ≡ length (area_of I (Ok p))) where
     room : p.offset + 16 + length area ≤ length I
     room =
         let i = among-inside I p m in
@@ -271,7 +269,7 @@ module _ (I : List ℕ) (p : Partition) (m : Among I p) where
           after = drop-pasted-after I (p.offset + 16) area room (past_at I p.offset) (omega (arith, among-past, area-long I p i));
         }
 
-    pub area-new : area_of (pasted I (p.offset + 16) area) (At p) ≡ area
+    pub area-new : area_of (pasted I (p.offset + 16) area) (Ok p) ≡ area
     unfolding area_of
     area-new =
         ap (take (p.blocks.0 * 16 - 16)) (drop-pasted-at I (p.offset + 16) area room)
@@ -296,5 +294,5 @@ kept_again {I} {J} {K} {a} e f =
 
 pub area-bytes : (I : List ℕ) (f : Found) → AllBytes I → AllBytes (area_of I f)
 unfolding area_of
-area-bytes I (At p) h = every_take (λ b. b < 256) (p.blocks.0 * 16 - 16) (drop (p.offset + 16) I) (every_drop (λ b. b < 256) (p.offset + 16) I h)
-area-bytes I (Refused x) h = tt
+area-bytes I (Ok p) h = every_take (λ b. b < 256) (p.blocks.0 * 16 - 16) (drop (p.offset + 16) I) (every_drop (λ b. b < 256) (p.offset + 16) I h)
+area-bytes I (Err x) h = tt

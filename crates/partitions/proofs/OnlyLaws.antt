@@ -9,14 +9,12 @@ use Rattle.lists.proofs.Tests.{split, clash}
 use Rattle.errors.specs.declared.Error.{Error}
 use Rattle.errors.specs.declared.Error.TheVariants.{NoPartition, RepeatedPartition}
 use Rattle.partitions.specs.declared.Partition.{Partition}
-use Rattle.partitions.specs.declared.Found.{Found}
-use Rattle.partitions.specs.declared.Found.TheVariants.{At, Refused}
+use Rattle.partitions.specs.Find.{Found, matches, first_match, find_by, find_of, only_unless, only_match, only_by, only_of}
+use Rattle.std.specs.Prelude.{Ok, Err}
 use Rattle.partitions.specs.Walk.{Walk, covered, broken, walk}
-use Rattle.partitions.specs.Find.{matches, first_match, find_by, find_of, only_unless, only_match, only_by, only_of}
 use Rattle.partitions.specs.Cover.{Accepted, Named, NoneNamed, OnlyNamed, SecondNamed, NotOnly, rejected, second, absent}
 use Rattle.partitions.proofs.CoverLaws.{Walked, accepts, rejects, walked, accepted-exactly, rejected-exactly}
-use Rattle.partitions.proofs.FoundLaws.{named-matches, matches-named, not-matches, match-head, match-tail}
-use Rattle.partitions.proofs.FoundLaws.{Match, found, missing, match, match-first, match_none}
+use Rattle.partitions.proofs.FoundLaws.{named-matches, matches-named, not-matches, match-head, match-tail, Match, found, missing, match, match-first, match_none}
 
 module _ (image : List ℕ) (signature : ℕ) (name : List ℕ) where
   -- by the walk
@@ -28,12 +26,12 @@ module _ (image : List ℕ) (signature : ℕ) (name : List ℕ) where
   unfolding only_by
   only-covered ps = refl
 
-  pub only-broken : (e : Error) → only_by image signature name (broken e) ≡ Refused e
+  pub only-broken : (e : Error) → only_by image signature name (broken e) ≡ Err e
   unfolding only_by
   only-broken e = refl
 
   -- by the partitions
-  pub only-nothing : only_match image signature name [] ≡ Refused NoPartition
+  pub only-nothing : only_match image signature name [] ≡ Err NoPartition
   unfolding only_match
   only-nothing = refl
 
@@ -49,12 +47,12 @@ module _ (image : List ℕ) (signature : ℕ) (name : List ℕ) where
 
   -- what is found in a list, by the rules: no match, the only one, or a second one
   data Only : List Partition → Found → Type 0 where
-    none : {all : List Partition} → NoneNamed image signature name all → Only all (Refused NoPartition)
+    none : {all : List Partition} → NoneNamed image signature name all → Only all (Err NoPartition)
     one : (before : List Partition) (p : Partition) (after : List Partition) → NoneNamed image signature name before
-        → Named image signature name p.offset → NoneNamed image signature name after → Only (before ++ p ∷ after) (At p)
+        → Named image signature name p.offset → NoneNamed image signature name after → Only (before ++ p ∷ after) (Ok p)
     two : (before : List Partition) (q : Partition) (between : List Partition) (p : Partition) (after : List Partition)
         → NoneNamed image signature name before → Named image signature name q.offset → NoneNamed image signature name between
-        → Named image signature name p.offset → Only (before ++ q ∷ between ++ p ∷ after) (Refused (RepeatedPartition p.offset))
+        → Named image signature name p.offset → Only (before ++ q ∷ between ++ p ∷ after) (Err (RepeatedPartition p.offset))
 
   only-later : (q : Partition) {ps : List Partition} {f : Found} → ¬ (Named image signature name q.offset) → Only ps f → Only (q ∷ ps) f
   only-later q n (none {all = all} u) = none {all = q ∷ all} (n, u)
@@ -63,9 +61,9 @@ module _ (image : List ℕ) (signature : ℕ) (name : List ℕ) where
 
   only_here : (q : Partition) (ps : List Partition) → Named image signature name q.offset → (f : Found) → Match image signature name ps f
       → Only (q ∷ ps) (only_unless q f)
-  only_here q ps n (At p) (found s) =
+  only_here q ps n (Ok p) (found s) =
       rw (← s.joined) (two [] q s.before p s.after tt n s.unnamed s.named)
-  only_here q ps n (Refused x) (missing u) = one [] q ps tt n u
+  only_here q ps n (Err x) (missing u) = one [] q ps tt n u
 
   only : (ps : List Partition) → Only ps (only_match image signature name ps)
   only [] = rw only-nothing (none tt)
@@ -79,7 +77,7 @@ module _ (image : List ℕ) (signature : ℕ) (name : List ℕ) where
   -- and the other way round
   only_one : (before : List Partition) (p : Partition) (after : List Partition) → NoneNamed image signature name before
       → Named image signature name p.offset → NoneNamed image signature name after
-      → only_match image signature name (before ++ p ∷ after) ≡ At p
+      → only_match image signature name (before ++ p ∷ after) ≡ Ok p
   only_one [] p after u n v =
       only-head p after (named-matches image signature name p.offset n) ∙ ap (only_unless p) (match_none image signature name after v)
   only_one (q ∷ before) p after u n v =
@@ -88,7 +86,7 @@ module _ (image : List ℕ) (signature : ℕ) (name : List ℕ) where
   only_two : (before : List Partition) (q : Partition) (between : List Partition) (p : Partition) (after : List Partition)
       → NoneNamed image signature name before → Named image signature name q.offset → NoneNamed image signature name between
       → Named image signature name p.offset
-      → only_match image signature name (before ++ q ∷ between ++ p ∷ after) ≡ Refused (RepeatedPartition p.offset)
+      → only_match image signature name (before ++ q ∷ between ++ p ∷ after) ≡ Err (RepeatedPartition p.offset)
   only_two [] q between p after u n v m =
       only-head q (between ++ p ∷ after) (named-matches image signature name q.offset n)
       ∙ ap (only_unless q) (match-first image signature name between p after v m)
@@ -96,27 +94,27 @@ module _ (image : List ℕ) (signature : ℕ) (name : List ℕ) where
       only-tail r (before ++ q ∷ between ++ p ∷ after) (not-matches image signature name r.offset u.0)
       ∙ only_two before q between p after u.1 n v m
 
-  only_none : (ps : List Partition) → NoneNamed image signature name ps → only_match image signature name ps ≡ Refused NoPartition
+  only_none : (ps : List Partition) → NoneNamed image signature name ps → only_match image signature name ps ≡ Err NoPartition
   only_none [] u = only-nothing
   only_none (q ∷ ps) u = only-tail q ps (not-matches image signature name q.offset u.0) ∙ only_none ps u.1
 
   -- the only one is the first one
-  unless-at : (p q : Partition) (f : Found) → only_unless p f ≡ At q → p ≡ q
-  unless-at p q (At r) e = clash (cc)
-  unless-at p q (Refused x) e = cc
+  unless-at : (p q : Partition) (f : Found) → only_unless p f ≡ Ok q → p ≡ q
+  unless-at p q (Ok r) e = clash (cc)
+  unless-at p q (Err x) e = cc
 
-  match-only : (p : Partition) (ps : List Partition) → only_match image signature name ps ≡ At p → first_match image signature name ps ≡ At p
+  match-only : (p : Partition) (ps : List Partition) → only_match image signature name ps ≡ Ok p → first_match image signature name ps ≡ Ok p
   match-only p [] e = clash (cc (only-nothing))
   match-only p (q ∷ ps) e =
       split (matches image signature name q.offset)
-      (λ t. match-head image signature name q ps t ∙ ap At (unless-at q p (first_match image signature name ps) (sym (only-head q ps t) ∙ e)))
+      (λ t. match-head image signature name q ps t ∙ ap Ok (unless-at q p (first_match image signature name ps) (sym (only-head q ps t) ∙ e)))
       (λ t. match-tail image signature name q ps t ∙ match-only p ps (sym (only-tail q ps t) ∙ e))
 
-  pub only-found : (p : Partition) → only_of image signature name ≡ At p → find_of image signature name ≡ At p
+  pub only-found : (p : Partition) → only_of image signature name ≡ Ok p → find_of image signature name ≡ Ok p
   unfolding only_of only_by find_of find_by
   only-found p = go (walk image)
     where
-      go : (w : Walk) → only_by image signature name w ≡ At p → find_by image signature name w ≡ At p
+      go : (w : Walk) → only_by image signature name w ≡ Ok p → find_by image signature name w ≡ Ok p
       go (covered ps) e = match-only p ps e
       go (broken x) e = e
 
@@ -125,14 +123,14 @@ module _ (image : List ℕ) (signature : ℕ) (name : List ℕ) where
     accepted-only ps a = only-walk ∙ ap (only_by image signature name) ((accepted-exactly image bytes ps).1 a) ∙ only-covered ps
 
     -- FOUND exactly when it is the only one
-    pub only-exactly : (p : Partition) → (only_of image signature name ≡ At p) ↔ OnlyNamed image signature name p
+    pub only-exactly : (p : Partition) → (only_of image signature name ≡ Ok p) ↔ OnlyNamed image signature name p
     unfolding only_of only_by
     only-exactly p = (
       there (walk image) (walked image bytes),
       λ f. accepted-only _ f.accepted ∙ only_one f.before p f.after f.unnamed-before f.named f.unnamed-after,
     )
       where
-        of-only : (ps : List Partition) → Accepted image ps → (f : Found) → Only ps f → f ≡ At p → OnlyNamed image signature name p
+        of-only : (ps : List Partition) → Accepted image ps → (f : Found) → Only ps f → f ≡ Ok p → OnlyNamed image signature name p
         of-only ps a f (none u) e = clash (cc)
         of-only ps a f (one before r after u n v) e =
             let q : r ≡ p = cc in
@@ -141,16 +139,16 @@ module _ (image : List ℕ) (signature : ℕ) (name : List ℕ) where
             rw q at o
         of-only ps a f (two before r between t after u n v k) e = clash (cc)
 
-        there : (w : Walk) → Walked image bytes w → only_by image signature name w ≡ At p → OnlyNamed image signature name p
+        there : (w : Walk) → Walked image bytes w → only_by image signature name w ≡ Ok p → OnlyNamed image signature name p
         there (covered ps) (accepts a) e = of-only ps a (only_match image signature name ps) (only ps) e
         there (broken x) (rejects r) e = clash (cc)
 
     -- REFUSED exactly when there is no only one, by the error that says why
-    pub only-refuses : (e : Error) → (only_of image signature name ≡ Refused e) ↔ NotOnly image signature name e
+    pub only-refuses : (e : Error) → (only_of image signature name ≡ Err e) ↔ NotOnly image signature name e
     unfolding only_of only_by
     only-refuses e = (there (walk image) (walked image bytes), back e)
       where
-        of-only : (ps : List Partition) → Accepted image ps → (f : Found) → Only ps f → f ≡ Refused e → NotOnly image signature name e
+        of-only : (ps : List Partition) → Accepted image ps → (f : Found) → Only ps f → f ≡ Err e → NotOnly image signature name e
         of-only ps a f (none u) q = let z : NoPartition ≡ e = cc in rw z at (absent (record { all = ps; accepted = a; unnamed = u }))
         of-only ps a f (one before r after u n v) q = clash (cc)
         of-only ps a f (two before r between p after u n v k) q =
@@ -169,11 +167,11 @@ module _ (image : List ℕ) (signature : ℕ) (name : List ℕ) where
             } in
             rw z at (second s)
 
-        there : (w : Walk) → Walked image bytes w → only_by image signature name w ≡ Refused e → NotOnly image signature name e
+        there : (w : Walk) → Walked image bytes w → only_by image signature name w ≡ Err e → NotOnly image signature name e
         there (covered ps) (accepts a) q = of-only ps a (only_match image signature name ps) (only ps) q
         there (broken x) (rejects r) q = let z : x ≡ e = cc in rejected (rw z at r)
 
-        back : (x : Error) → NotOnly image signature name x → only_of image signature name ≡ Refused x
+        back : (x : Error) → NotOnly image signature name x → only_of image signature name ≡ Err x
         back x (rejected r) = only-walk ∙ ap (only_by image signature name) ((rejected-exactly image bytes x).1 r) ∙ only-broken x
         back x (second {p = p} s) =
             accepted-only _ s.accepted

@@ -1,5 +1,5 @@
 -- The rules of an image as relations on its bytes; what computes here only reads the image's bytes.
-use Rattle.std.specs.Prelude.{ℕ, ◌+◌, ◌-◌, ◌*◌, ◌%◌, ◌≤◌, ◌<◌, ◌≡◌, List, [], ◌∷◌, ◌++◌, length, take, drop}
+use Rattle.std.specs.Prelude.{ℕ, ◌+◌, ◌-◌, ◌*◌, ◌%◌, ◌≤◌, ◌<◌, ◌≡◌, List, [], ◌∷◌, ◌++◌, length, take, drop, Option, Some, None}
 use Rattle.errors.specs.declared.HeaderFault.{HeaderFault}
 use Rattle.errors.specs.declared.HeaderFault.TheVariants.{ZeroLength, PastEnd, Checksum}
 use Rattle.errors.specs.declared.Error.{Error}
@@ -8,7 +8,8 @@ use Rattle.header.specs.Header.{byte_at, name_at}
 use Rattle.header.specs.Rules.{blocks_at, Sound, Breaks}
 use Rattle.partition_name.specs.Rules.{MatchesName}
 use Rattle.partitions.specs.declared.Partition.{Partition}
-use Rattle.partitions.specs.declared.StepAnswer.{StepAnswer}
+use Rattle.partitions.specs.declared.Step.{Step}
+use Rattle.errors.specs.declared.Answer.{Answer}
 
 -- an image's length is a multiple of 16, from 16 to 1,048,576 bytes
 pub record LengthRule (n : ℕ) : Type 0 where
@@ -123,15 +124,11 @@ pub record OutsideKept (image : List ℕ) (at : ℕ) (changed : List ℕ) : Type
   pub after : drop (past_at image at) changed ≡ drop (past_at image at) image
 
 -- what a caller sees of a step at an offset: the partition there and the next offset, the end, or the first rule that is broken
-pub data StepRow (image : List ℕ) (at : ℕ) : StepAnswer → Type 0 where
+pub data StepRow (image : List ℕ) (at : ℕ) : Answer (Option Step) → Type 0 where
   shows : Sound image at
       → StepRow image at
-      (record { code = 0; offset = 0; header = at; blocks = blocks_at image at; signature = byte_at image at 0; next = past_at image at })
-  ends : length image ≤ at
-      → StepRow image at (record { code = 0; offset = 0; header = 0; blocks = 0; signature = 0; next = 0 })
-  step-two : at < length image → Breaks image at ZeroLength
-      → StepRow image at (record { code = 2; offset = at; header = 0; blocks = 0; signature = 0; next = 0 })
-  step-three : at < length image → Breaks image at PastEnd
-      → StepRow image at (record { code = 3; offset = at; header = 0; blocks = 0; signature = 0; next = 0 })
-  step-four : at < length image → Breaks image at Checksum
-      → StepRow image at (record { code = 4; offset = at; header = 0; blocks = 0; signature = 0; next = 0 })
+      (record { code = 0; offset = 0; value = Some (record { here = partition_at image at; next = record { at = past_at image at } }) })
+  ends : length image ≤ at → StepRow image at (record { code = 0; offset = 0; value = None })
+  step-two : at < length image → Breaks image at ZeroLength → StepRow image at (record { code = 2; offset = at; value = None })
+  step-three : at < length image → Breaks image at PastEnd → StepRow image at (record { code = 3; offset = at; value = None })
+  step-four : at < length image → Breaks image at Checksum → StepRow image at (record { code = 4; offset = at; value = None })

@@ -3,4 +3,3 @@ pub mod Find
 pub mod Views
 pub mod Cover
 pub mod Examples
-pub mod Helpers

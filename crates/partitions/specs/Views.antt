@@ -1,34 +1,25 @@
--- The code, the offset and the values that a caller sees in each answer; with every code from 1 up the values are 0.
-use Rattle.std.specs.Prelude.{ℕ}
-use Rattle.errors.specs.Errors.{code_of, offset_of}
-use Rattle.partitions.specs.declared.CheckAnswer.{CheckAnswer}
-use Rattle.partitions.specs.declared.Checked.{Checked}
-use Rattle.partitions.specs.declared.FindAnswer.{FindAnswer}
-use Rattle.partitions.specs.declared.StepAnswer.{StepAnswer}
+-- What a caller sees of each answer: code 0 and the value, or the error's code and offset, and the type's default for a value.
+use Rattle.std.specs.Prelude.{ℕ, Option, None, Result}
+use Rattle.errors.specs.declared.Error.{Error}
+use Rattle.errors.specs.declared.Answer.{Answer}
+use Rattle.errors.specs.Answer.{answer_of}
+use Rattle.partitions.specs.declared.Partition.{Partition}
 use Rattle.partitions.specs.declared.Step.{Step}
-use Rattle.partitions.specs.declared.Step.TheVariants.{Next, End, Broken}
-use Rattle.partitions.specs.declared.Found.{Found}
-use Rattle.partitions.specs.declared.Found.TheVariants.{At, Refused}
-
--- a step of the walk that has no partition to show
-abbrev pub no_step : ℕ → ℕ → StepAnswer
-no_step code offset = record { code = code; offset = offset; header = 0; blocks = 0; signature = 0; next = 0 }
+use Rattle.partitions.specs.Walk.{Stepped}
+use Rattle.partitions.specs.Find.{Found}
 
 -- a step of the walk: the partition and the next offset, none at the end
-abbrev pub step_answer : Step → StepAnswer
-step_answer (Next p c) =
-    record { code = 0; offset = 0; header = p.offset; blocks = p.blocks.0; signature = p.signature; next = c.at }
-step_answer End = no_step 0 0
-step_answer (Broken e) = no_step (code_of e) (offset_of e)
+abbrev pub step_answer : Stepped → Answer (Option Step)
+step_answer step = answer_of None step
 
 -- the image check: the number of partitions
-abbrev pub check_answer : Checked → CheckAnswer
-check_answer (Checked.Accepted n) = record { code = 0; offset = 0; partitions = n }
-check_answer (Checked.Refused e) = record { code = code_of e; offset = offset_of e; partitions = 0 }
+abbrev pub check_answer : Result ℕ Error → Answer ℕ
+check_answer checked = answer_of 0 checked
+
+-- no partition: all numbers 0
+abbrev pub no_partition : Partition
+no_partition = record { offset = 0; blocks = record { 0 = 0 }; signature = 0 }
 
 -- a partition by its index or by its signature and name
-abbrev pub find_answer : Found → FindAnswer
-find_answer (At p) =
-    record { code = 0; offset = 0; header = p.offset; blocks = p.blocks.0; signature = p.signature }
-find_answer (Refused e) =
-    record { code = code_of e; offset = offset_of e; header = 0; blocks = 0; signature = 0 }
+abbrev pub find_answer : Found → Answer Partition
+find_answer found = answer_of no_partition found

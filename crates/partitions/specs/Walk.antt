@@ -1,14 +1,11 @@
 -- The walk of an image's partitions, step by step from byte 0.
-use Rattle.std.specs.Prelude.{ℕ, zero, suc, ◌+◌, ◌%◌, Bool, ◌&&◌, cond, List, [], ◌∷◌, length, leb, eqb}
+use Rattle.std.specs.Prelude.{ℕ, zero, suc, ◌+◌, ◌%◌, Bool, ◌&&◌, cond, List, [], ◌∷◌, length, leb, eqb, Option, Some, None, Result, Ok, Err}
 use Rattle.errors.specs.declared.Error.{Error}
 use Rattle.errors.specs.declared.HeaderFault.TheVariants.{PastEnd}
 use Rattle.errors.specs.declared.Error.TheVariants.{ImageLength, BadHeader}
-use Rattle.header.specs.declared.Validity.{Validity}
-use Rattle.header.specs.declared.Validity.TheVariants.{Valid, Invalid}
-use Rattle.header.specs.Header.{header_at, validity_at, bytes_of}
+use Rattle.header.specs.Header.{Validity, header_at, validity_at, bytes_of}
 use Rattle.partitions.specs.declared.Partition.{Partition}
 use Rattle.partitions.specs.declared.Step.{Step}
-use Rattle.partitions.specs.declared.Step.TheVariants.{Next, End, Broken}
 
 -- an image's length is a multiple of 16, from 16 to 1,048,576 bytes
 unfoldable pub allowed_length : ℕ → Bool
@@ -23,14 +20,22 @@ partition_of image at =
 unfoldable pub past_of : List ℕ → ℕ → ℕ
 past_of image at = at + (bytes_of (header_at image at).length).0
 
+-- the step from a sound header at an offset: the partition there, and the offset just past it
+abbrev pub onward : List ℕ → ℕ → Step
+onward image at = record { here = partition_of image at; next = record { at = past_of image at } }
+
+-- what a step finds: a partition and the next offset, nothing at the end, or an error
+abbrev pub Stepped : Type 0
+Stepped = Result (Option Step) Error
+
 -- what a step finds inside the image, by the validity of the header there
-abbrev pub step_by : List ℕ → ℕ → Validity → Step
-step_by image at Valid = Next (partition_of image at) (record { at = past_of image at })
-step_by image at (Invalid e) = Broken e
+abbrev pub step_by : List ℕ → ℕ → Validity → Stepped
+step_by image at (Ok _) = Ok (Some (onward image at))
+step_by image at (Err e) = Err e
 
 -- what a step at an offset finds: the partition and its next offset, the end, or the rule that its header breaks
-unfoldable pub step_at : List ℕ → ℕ → Step
-step_at image at = cond (leb (length image) at) End (step_by image at (validity_at image at))
+unfoldable pub step_at : List ℕ → ℕ → Stepped
+step_at image at = cond (leb (length image) at) (Ok None) (step_by image at (validity_at image at))
 
 -- what a walk finds: the partitions up to the image's end, or the first rule that is broken
 pub data Walk : Type 0 where
@@ -43,10 +48,10 @@ first p (covered ps) = covered (p ∷ ps)
 first p (broken e) = broken e
 
 -- what a walk finds, by its first step; go: the walk from the next offset
-abbrev pub on_step : Step → (ℕ → Walk) → Walk
-on_step (Next p c) go = first p (go c.at)
-on_step End go = covered []
-on_step (Broken e) go = broken e
+abbrev pub on_step : Stepped → (ℕ → Walk) → Walk
+on_step (Ok (Some s)) go = first s.here (go s.next.at)
+on_step (Ok None) go = covered []
+on_step (Err e) go = broken e
 
 -- the walk from an offset; the first number bounds its steps, and one more than the image's length is enough
 unfoldable pub walk_from : ℕ → List ℕ → ℕ → Walk

@@ -10,8 +10,8 @@ use borrow.Author.Tests.{eqb-true, eqb-false, ltb-true, ltb-false}
 use Rattle.lists.specs.Bytes.{same_bytes, stands}
 use Rattle.lists.proofs.Tests.{split}
 use Rattle.lists.proofs.ByteLaws.{same_refl, same_true}
-use Rattle.repeats.specs.declared.Repeat.{Repeat}
-use Rattle.repeats.specs.declared.Repeat.TheVariants.{At, None}
+use Rattle.std.specs.declared.option.Option.{Option}
+use Rattle.std.specs.declared.option.Option.TheVariants.{Some, None}
 use Rattle.repeats.specs.Pieces.{piece_name, starts_from, starts, repeat_in, first_repeat}
 use Rattle.repeats.specs.Helpers.Places.{Start, Distinct, Early, Best}
 use Rattle.lists.proofs.ListLaws.{drop-next}
@@ -65,8 +65,8 @@ seen_same l at seen st s = record {
 }
 
 -- the answer: at `best`, or none at the end
-unfoldable answer : Bool → ℕ → Repeat
-answer true best = At best
+unfoldable answer : Bool → ℕ → Option ℕ
+answer true best = Some best
 answer false best = None
 
 module _ (l : List ℕ) (best : ℕ) (found : Bool) (d : Distinct l best best) (inside : best ≤ length l)
@@ -127,7 +127,7 @@ module _ (l : List ℕ) (best : ℕ) (found : Bool) (d : Distinct l best best) (
 shrink : {l : List ℕ} {from best : ℕ} → best ≤ from → Distinct l from best → Distinct l best best
 shrink h d = record { differ = λ p q a b c u v e. d.differ p q (omega arith) b c u v e }
 
-pub first-at : {l : List ℕ} {from best : ℕ} → Distinct l from best → Best l best → best ≤ from → best < length l → At best ≡ first_repeat l
+pub first-at : {l : List ℕ} {from best : ℕ} → Distinct l from best → Best l best → best ≤ from → best < length l → Some best ≡ first_repeat l
 unfolding answer
 first-at {l} {from} {best} d b h i =
     first-is l best true (shrink h d) b.inside (λ _. b.hit i) (λ e. let z : ◌≡◌ {A = ℕ} 0 1 = cc in absurd (omega arith))

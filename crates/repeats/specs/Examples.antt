@@ -1,7 +1,6 @@
 -- Examples of the definition, by computing.
-use Rattle.std.specs.Prelude.{◌≡◌, refl, [], ◌∷◌}
+use Rattle.std.specs.Prelude.{◌≡◌, refl, [], ◌∷◌, Some, None}
 use Rattle.lists.specs.Bytes.{same_bytes, stands}
-use Rattle.repeats.specs.declared.Repeat.TheVariants.{At, None}
 use Rattle.repeats.specs.Pieces.{ends_name, name_of, piece_name, starts_from, starts, repeat_in, first_repeat}
 
 -- no bytes; a=1, b=2
@@ -14,12 +13,12 @@ unfolding same_bytes stands ends_name name_of piece_name starts_from starts repe
 example-2 = refl
 
 -- a=1, b=2, a=: the third, at 8
-example-3 : first_repeat (97 ∷ 61 ∷ 49 ∷ 0 ∷ 98 ∷ 61 ∷ 50 ∷ 0 ∷ 97 ∷ 61 ∷ 0 ∷ []) ≡ At 8
+example-3 : first_repeat (97 ∷ 61 ∷ 49 ∷ 0 ∷ 98 ∷ 61 ∷ 50 ∷ 0 ∷ 97 ∷ 61 ∷ 0 ∷ []) ≡ Some 8
 unfolding same_bytes stands ends_name name_of piece_name starts_from starts repeat_in first_repeat
 example-3 = refl
 
 -- a=, b=, b=, a=: the earlier of two repeats
-example-4 : first_repeat (97 ∷ 61 ∷ 0 ∷ 98 ∷ 61 ∷ 0 ∷ 98 ∷ 61 ∷ 0 ∷ 97 ∷ 61 ∷ 0 ∷ []) ≡ At 6
+example-4 : first_repeat (97 ∷ 61 ∷ 0 ∷ 98 ∷ 61 ∷ 0 ∷ 98 ∷ 61 ∷ 0 ∷ 97 ∷ 61 ∷ 0 ∷ []) ≡ Some 6
 unfolding same_bytes stands ends_name name_of piece_name starts_from starts repeat_in first_repeat
 example-4 = refl
 

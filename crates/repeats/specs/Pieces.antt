@@ -1,8 +1,6 @@
 -- Bytes as pieces: a piece begins at 0 and after each 0x00, and its name is what stands before its first `=` or 0x00 or the end.
-use Rattle.std.specs.Prelude.{ℕ, ◌+◌, Bool, true, false, ◌||◌, List, [], ◌∷◌, drop, eqb}
+use Rattle.std.specs.Prelude.{ℕ, ◌+◌, Bool, true, false, ◌||◌, List, [], ◌∷◌, drop, eqb, Option, Some, None}
 use Rattle.lists.specs.Bytes.{stands}
-use Rattle.repeats.specs.declared.Repeat.{Repeat}
-use Rattle.repeats.specs.declared.Repeat.TheVariants.{At, None}
 
 -- `=` and 0x00 end a name
 unfoldable pub ends_name : ℕ → Bool
@@ -27,11 +25,11 @@ starts_from false at (b ∷ bs) = starts_from (eqb b 0x00) (at + 1) bs
 unfoldable pub starts : List ℕ → List ℕ
 starts l = starts_from true 0 l
 
--- the first of these pieces whose name stood before; seen: the names before them
-unfoldable pub repeat_in : List ℕ → List (List ℕ) → List ℕ → Repeat
+-- the first of these starts whose name stood before; seen: the names before them
+unfoldable pub repeat_in : List ℕ → List (List ℕ) → List ℕ → Option ℕ
 repeat_in l seen [] = None
-repeat_in l seen (s ∷ ss) = elim (stands (piece_name l s) seen) [ true ↦ At s | false ↦ repeat_in l (piece_name l s ∷ seen) ss ]
+repeat_in l seen (s ∷ ss) = elim (stands (piece_name l s) seen) [ true ↦ Some s | false ↦ repeat_in l (piece_name l s ∷ seen) ss ]
 
--- the first piece whose name stood before
-unfoldable pub first_repeat : List ℕ → Repeat
+-- where the first piece begins whose name stood before
+unfoldable pub first_repeat : List ℕ → Option ℕ
 first_repeat l = repeat_in l [] (starts l)

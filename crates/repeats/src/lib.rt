@@ -7,14 +7,6 @@ ghost use Rattle.repeats.specs.Pieces.{piece_name, first_repeat};
 ghost use Rattle.repeats.specs.Helpers.Places.{Start, PieceByte, Next, Distinct, Best};
 ghost use Rattle.repeats.specs.Helpers.Table.{hash_of, placed, Table, Walked, Block, Gathered, Turn};
 
-// The first piece whose name stood before, if there is one.
-#[derive(Clone, Copy)]
-pub enum Repeat {
-    // The later piece begins here.
-    At(usize),
-    None,
-}
-
 // Whether the walk to a name finds it, and else the empty link where it ends.
 #[derive(Clone, Copy)]
 struct WalkEnd {
@@ -297,8 +289,8 @@ fn turn_sized(pairs: &[u8], from: usize, best: usize) -> Turned
     turn_large(pairs, from, best)
 }
 
-// The first piece whose name stood before. A piece begins at 0 and after each 0x00; its name ends before its first `=` or 0x00.
-pub fn first_repeat(pairs: &[u8]) -> Repeat
+// Where the first piece begins whose name stood before. A piece begins at 0 and after each 0x00; its name ends before its first `=` or 0x00.
+pub fn first_repeat(pairs: &[u8]) -> Option<usize>
     ensures { result ≡ first_repeat pairs.now }
 {
     let mut best = pairs.len();
@@ -309,7 +301,7 @@ pub fn first_repeat(pairs: &[u8]) -> Repeat
         best = t.best;
     }
     if best < pairs.len() {
-        return Repeat::At(best);
+        return Some(best);
     }
-    Repeat::None
+    None
 }

@@ -13,8 +13,7 @@ use Rattle.lists.proofs.Tests.{split, clash}
 use Rattle.values.specs.Value.{mark, full_escapes, rest_escape, run_bytes, escaped, encode_from, encode}
 use Rattle.values.specs.Rules.{Escapes, full, rest, none, Begins, Canonical, nothing, itself, zeros, ones}
 use Rattle.lists.proofs.ListLaws.{replicate-snoc}
-use Rattle.values.proofs.EncodeLaws.{escaped-cases, escaped-zero, escaped-ff, rest-none, rest_some, encode-none}
-use Rattle.values.proofs.EncodeLaws.{encode-more, encode-other, encode-plain, encode-cases, encode_same, encode-run}
+use Rattle.values.proofs.EncodeLaws.{escaped-cases, escaped-zero, escaped-ff, rest-none, rest_some, encode-none, encode-more, encode-other, encode-plain, encode-cases, encode_same, encode-run}
 
 -- ---- a run
 

@@ -14,8 +14,7 @@ use Rattle.lists.proofs.Tests.{split, clash}
 use Rattle.values.specs.Value.{run_byte, run, decode, spelled, mark, full_escapes, rest_escape, run_bytes, escaped, encode_from, encode}
 use Rattle.values.specs.Rules.{Spells, nothing, itself, zeros, ones}
 use Rattle.lists.proofs.ListLaws.{replicate-two, replicate-snoc, every_append}
-use Rattle.values.proofs.DecodeLaws.{run-low, run-high, decode-none, decode-plain, decode-escape, run-zeros}
-use Rattle.values.proofs.DecodeLaws.{run-ones, spelled-plain, spelled-escape, empty-spelled, spells-exactly}
+use Rattle.values.proofs.DecodeLaws.{run-low, run-high, decode-none, decode-plain, decode-escape, run-zeros, run-ones, spelled-plain, spelled-escape, empty-spelled, spells-exactly}
 
 -- ---- a byte that is escaped
 

@@ -11,15 +11,13 @@ use Rattle.lists.proofs.Tests.{clash}
 use Rattle.errors.specs.declared.AreaFault.{AreaFault}
 use Rattle.errors.specs.declared.Error.{Error}
 use Rattle.errors.specs.declared.Error.TheVariants.{BadArea, BadName, NoVariable, NoRoom, ShortBuffer}
-use Rattle.names.specs.declared.NameCheck.TheVariants.{Good, Wrong}
-use Rattle.names.specs.Name.{name_check}
+use Rattle.names.specs.Name.{good, wrong, name_check}
 use Rattle.names.proofs.NameLaws.{check-wrong-exactly, wrong-most, split-check}
 use Rattle.pairs.specs.Area.{Pair, pairs_bytes, Parse, parsed, faulty, parse}
 use Rattle.variables.specs.Edits.{area_bytes, set_pair, remove_pair, normalize_pairs, Lookup, found, missing, lookup}
 use Rattle.pairs.proofs.FaultLaws.{fault-inside}
 use Rattle.variables.specs.Helpers.{reply_offset}
-use Rattle.variables.specs.Calls.{Action, set_to, removal, read_into, Call, named, set, remove, normalize, read, count}
-use Rattle.variables.specs.Calls.{call_check, done, Outcome, refuse, edited, set_in, call_pairs, call_by, call_area}
+use Rattle.variables.specs.Calls.{Action, set_to, removal, read_into, Call, named, set, remove, normalize, read, count, call_check, done, Outcome, refuse, edited, set_in, call_pairs, call_by, call_area}
 
 -- ---- the caller's name
 
@@ -27,16 +25,16 @@ pub check-named : (name : List ℕ) (action : Action) → call_check (named name
 unfolding call_check
 check-named name action = refl
 
-pub check-normalize : call_check normalize ≡ Good
+pub check-normalize : call_check normalize ≡ good
 unfolding call_check
 check-normalize = refl
 
-pub check-count : call_check count ≡ Good
+pub check-count : call_check count ≡ good
 unfolding call_check
 check-count = refl
 
 -- an index that is answered is one of 32
-check-index : (call : Call) (at : ℕ) → call_check call ≡ Wrong at → at ≤ 31
+check-index : (call : Call) (at : ℕ) → call_check call ≡ wrong at → at ≤ 31
 check-index (named name action) at e = wrong-most ((check-wrong-exactly name at).0 (sym (check-named name action) ∙ e))
 check-index normalize at e = clash (cc (check-normalize))
 check-index count at e = clash (cc (check-count))
@@ -48,15 +46,15 @@ split-parse (parsed ps) g h = g ps refl
 split-parse (faulty f at) g h = h f at refl
 
 module _ (call : Call) (area : List ℕ) where
-  pub call-misnamed : (at : ℕ) → call_check call ≡ Wrong at → call_area call area ≡ refuse (BadName at) call area
+  pub call-misnamed : (at : ℕ) → call_check call ≡ wrong at → call_area call area ≡ refuse (BadName at) call area
   unfolding call_area
   call-misnamed at n = rw n
 
-  pub call-named : call_check call ≡ Good → call_area call area ≡ call_by (parse area) call area
+  pub call-named : call_check call ≡ good → call_area call area ≡ call_by (parse area) call area
   unfolding call_area
   call-named n = rw n
 
-  module _ (n : call_check call ≡ Good) where
+  module _ (n : call_check call ≡ good) where
     pub call-faulty : (f : AreaFault) (at : ℕ) → parse area ≡ faulty f at → call_area call area ≡ refuse (BadArea f at) call area
     call-faulty f at h = call-named n ∙ ap (λ (x : Parse). call_by x call area) h
 

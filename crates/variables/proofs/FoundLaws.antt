@@ -1,4 +1,5 @@
 -- What the search for a name finds in a parsed area: the pair before which the edits and the lookup split the list.
+use Rattle.std.specs.Prelude.{Option, Some, None}
 use Prim.Native.Nat.{ℕ, zero, suc, ◌+◌, ◌-◌, ◌<◌}
 use mathlib.Core.Bool.{cond}
 use mathlib.Core.Path.{◌≡◌, refl, sym, ap, ◌∙◌, subst}
@@ -13,11 +14,10 @@ use Rattle.errors.specs.declared.AreaFault.TheVariants.{Repeated}
 use Rattle.values.specs.Value.{decode}
 use Rattle.values.specs.Helpers.{part}
 use Rattle.pairs.specs.declared.Place.{Place}
-use Rattle.pairs.specs.declared.Place.TheVariants.{At, None}
 use Rattle.pairs.specs.Scan.{Stand, pair, finish, cut, wrong_name, wrong_escape, stand_at}
 use Rattle.pairs.specs.Area.{Pair, pair_of, pair_bytes, pairs_bytes, Parse, parsed, faulty, first_pair, on_stand, parse_from, parse}
 use Rattle.variables.specs.Edits.{canonical_pair, set_pair, remove_pair, found, missing, lookup}
-use Rattle.pairs.specs.Helpers.{find_from, find_at}
+use Rattle.pairs.specs.Helpers.{placed, find_from, find_at}
 use Rattle.pairs.proofs.PairPlaces.{pair-here}
 use Rattle.pairs.proofs.PairRuns.{PairRun, none, more, pair-bytes, run-bytes}
 use Rattle.pairs.proofs.ParseLaws.{pairs-append, length-pair}
@@ -66,10 +66,10 @@ unfolding parse
 parsed-ended area ps e = parsed-from (suc (length area)) [] 0 (length area) area ps e
 
 -- the first of these pairs with that name; at: the offset of the first
-unfoldable place_in : List ℕ → ℕ → List Pair → Place
+unfoldable place_in : List ℕ → ℕ → List Pair → Option Place
 place_in name at [] = None
 place_in name at (p ∷ ps) =
-    cond (same_bytes name p.name) (At at (at + length p.name) (at + length p.name + 1 + length p.stored))
+    cond (same_bytes name p.name) (Some (placed at p.name p.stored))
     (place_in name (at + length p.name + length p.stored + 2) ps)
 
 find-run : (name : List ℕ) (n at : ℕ) {ps : List Pair} {l rest : List ℕ} → PairRun ps l rest → stand_at rest ≡ finish → length l < n
@@ -81,7 +81,7 @@ find-run name (suc n) at (more {name = m} {stored} {l} {next} {ps = ps} e r) s h
     let k : length l ≡ length m + length stored + 2 + length next =
     ap length (pair-here l m stored next e).is ∙ simp length-append (omega arith) in
     rw e
-    (ap (cond (same_bytes name m) (At at (at + length m) (at + length m + 1 + length stored)))
+    (ap (cond (same_bytes name m) (Some (placed at m stored)))
     (find-run name n (at + length m + length stored + 2) r s (omega arith)))
 
 find-parsed : (area name : List ℕ) (ps : List Pair) → parse area ≡ parsed ps → find_at area name ≡ place_in name 0 ps
@@ -89,37 +89,38 @@ unfolding find_at
 find-parsed area name ps e = let r = parsed-ended area ps e in find-run name (suc (length area)) 0 r.run r.stop (omega arith)
 
 -- where the first pair of a name stands in a list of pairs, and its offsets
-pub record FoundAt (name : List ℕ) (ps : List Pair) (start equals end : ℕ) : Type 0 where
+pub record FoundAt (name : List ℕ) (ps : List Pair) (p : Place) : Type 0 where
   pub before : List Pair
   pub stored : List ℕ
   pub after : List Pair
   pub pairs : ps ≡ before ++ pair_of name stored ∷ after
   pub fresh : lookup name before ≡ missing
-  pub start_is : start ≡ length (pairs_bytes before)
-  pub equals-is : equals ≡ start + length name
-  pub end_is : end ≡ equals + 1 + length stored
+  pub start_is : p.start ≡ length (pairs_bytes before)
+  pub equals-is : p.equals ≡ p.start + length name
+  pub end_is : p.end ≡ p.equals + 1 + length stored
 
 -- the same from the offset at on
-record FoundFrom (name : List ℕ) (at : ℕ) (ps : List Pair) (start equals end : ℕ) : Type 0 where
+record FoundFrom (name : List ℕ) (at : ℕ) (ps : List Pair) (p : Place) : Type 0 where
   before : List Pair
   stored : List ℕ
   after : List Pair
   pairs : ps ≡ before ++ pair_of name stored ∷ after
   fresh : lookup name before ≡ missing
-  start_is : start ≡ at + length (pairs_bytes before)
-  equals-is : equals ≡ start + length name
-  end_is : end ≡ equals + 1 + length stored
+  start_is : p.start ≡ at + length (pairs_bytes before)
+  equals-is : p.equals ≡ p.start + length name
+  end_is : p.end ≡ p.equals + 1 + length stored
 
-placed-from : (name : List ℕ) (at : ℕ) (ps : List Pair) (s q e : ℕ) → place_in name at ps ≡ At s q e → FoundFrom name at ps s q e
+placed-from : (name : List ℕ) (at : ℕ) (ps : List Pair) (x : Place) → place_in name at ps ≡ Some x → FoundFrom name at ps x
 unfolding place_in lookup pairs_bytes
-placed-from name at [] s q e h = clash cc
-placed-from name at (p ∷ ps) s q e h = split (same_bytes name p.name)
+placed-from name at [] x h = clash cc
+placed-from name at (p ∷ ps) x h = split (same_bytes name p.name)
     (λ t.
-    let f : At at (at + length p.name) (at + length p.name + 1 + length p.stored) ≡ At s q e = rw t at h in
+    let f : Some (placed at p.name p.stored) ≡ Some x = rw t at h in
+    let g : placed at p.name p.stored ≡ x = cc in
     let n : name ≡ p.name = same_true name p.name t in
-    let a : at ≡ s = cc in
-    let b : at + length p.name ≡ q = cc in
-    let c : at + length p.name + 1 + length p.stored ≡ e = cc in
+    let a : at ≡ x.start = ap (λ (y : Place). y.start) g in
+    let b : at + length p.name ≡ x.equals = ap (λ (y : Place). y.equals) g in
+    let c : at + length p.name + 1 + length p.stored ≡ x.end = ap (λ (y : Place). y.end) g in
     let k : length name ≡ length p.name = ap length n in
     record {
       before = [];
@@ -132,7 +133,7 @@ placed-from name at (p ∷ ps) s q e h = split (same_bytes name p.name)
       end_is = omega arith;
     })
     (λ t.
-    let r = placed-from name (at + length p.name + length p.stored + 2) ps s q e (rw t at h) in
+    let r = placed-from name (at + length p.name + length p.stored + 2) ps x (rw t at h) in
     record {
       before = p ∷ r.before;
       stored = r.stored;
@@ -148,20 +149,13 @@ placed-missing : (name : List ℕ) (at : ℕ) (ps : List Pair) → place_in name
 unfolding place_in lookup
 placed-missing name at [] h = refl
 placed-missing name at (p ∷ ps) h = split (same_bytes name p.name)
-    (λ t. let f : At at (at + length p.name) (at + length p.name + 1 + length p.stored) ≡ None = rw t at h in clash cc)
+    (λ t. let f : Some (placed at p.name p.stored) ≡ None = rw t at h in clash cc)
     (λ t. rw (t, lookup) (placed-missing name (at + length p.name + length p.stored + 2) ps (rw t at h)))
 
-missing-placed : (name : List ℕ) (at : ℕ) (ps : List Pair) → lookup name ps ≡ missing → place_in name at ps ≡ None
-unfolding place_in lookup
-missing-placed name at [] h = refl
-missing-placed name at (p ∷ ps) h = split (same_bytes name p.name)
-    (λ t. let f : found (decode p.stored) ≡ missing = rw (t, lookup) at h in clash cc)
-    (λ t. rw t (missing-placed name (at + length p.name + length p.stored + 2) ps (rw (t, lookup) at h)))
-
 module _ (area name : List ℕ) (ps : List Pair) (e : parse area ≡ parsed ps) where
-  pub find-found : (start equals end : ℕ) → find_at area name ≡ At start equals end → FoundAt name ps start equals end
-  find-found start equals end h =
-      let r = placed-from name 0 ps start equals end (sym (find-parsed area name ps e) ∙ h) in
+  pub find-found : (p : Place) → find_at area name ≡ Some p → FoundAt name ps p
+  find-found p h =
+      let r = placed-from name 0 ps p (sym (find-parsed area name ps e) ∙ h) in
       record {
         before = r.before;
         stored = r.stored;
@@ -175,9 +169,6 @@ module _ (area name : List ℕ) (ps : List Pair) (e : parse area ≡ parsed ps) 
 
   pub find-missing : find_at area name ≡ None → lookup name ps ≡ missing
   find-missing h = placed-missing name 0 ps (sym (find-parsed area name ps e) ∙ h)
-
-  pub missing-find : lookup name ps ≡ missing → find_at area name ≡ None
-  missing-find h = find-parsed area name ps e ∙ missing-placed name 0 ps h
 
 -- ---- what the edits and the lookup make of a list that is split so
 
@@ -206,7 +197,7 @@ module _ (name stored : List ℕ) (after : List Pair) where
 
 -- ---- the bytes of the pair that is found
 
-module _ {name : List ℕ} {ps : List Pair} {start equals end : ℕ} (f : FoundAt name ps start equals end) {area : List ℕ} (r : Ended ps area) where
+module _ {name : List ℕ} {ps : List Pair} {p : Place} (f : FoundAt name ps p) {area : List ℕ} (r : Ended ps area) where
   pub found-bytes : area ≡ pairs_bytes f.before ++ (name ++ 0x3D ∷ (f.stored ++ 0x00 ∷ (pairs_bytes f.after ++ r.rest)))
   unfolding pairs_bytes
   found-bytes =
@@ -216,7 +207,7 @@ module _ {name : List ℕ} {ps : List Pair} {start equals end : ℕ} (f : FoundA
       ∙ ap (λ (l : List ℕ). pairs_bytes f.before ++ l)
       (append_assoc (pair_bytes (pair_of name f.stored)) (pairs_bytes f.after) r.rest ∙ pair-bytes name f.stored (pairs_bytes f.after ++ r.rest))
 
-  pub found-stored : part area (equals + 1) end ≡ f.stored
+  pub found-stored : part area (p.equals + 1) p.end ≡ f.stored
   unfolding part
   found-stored =
       let w : List ℕ = pairs_bytes f.before ++ (name ++ 0x3D ∷ []) in
@@ -224,8 +215,8 @@ module _ {name : List ℕ} {ps : List Pair} {start equals end : ℕ} (f : FoundA
       let e : area ≡ w ++ v =
       found-bytes ∙ sym (append_assoc (pairs_bytes f.before) (name ++ 0x3D ∷ []) v
       ∙ ap (λ (l : List ℕ). pairs_bytes f.before ++ l) (append_assoc name (0x3D ∷ []) v)) in
-      let n : length w ≡ equals + 1 =
+      let n : length w ≡ p.equals + 1 =
       omega (arith, length-append (pairs_bytes f.before) (name ++ 0x3D ∷ []), length-append name (0x3D ∷ []), f.start_is, f.equals-is) in
-      let k : length f.stored ≡ end - (equals + 1) = omega (arith, f.end_is) in
-      ap (λ (l : List ℕ). take (end - (equals + 1)) (drop (equals + 1) l)) e ∙ ap (take (end - (equals + 1))) (drop_at w v (equals + 1) n)
-      ∙ take_at f.stored (0x00 ∷ (pairs_bytes f.after ++ r.rest)) (end - (equals + 1)) k
+      let k : length f.stored ≡ p.end - (p.equals + 1) = omega (arith, f.end_is) in
+      ap (λ (l : List ℕ). take (p.end - (p.equals + 1)) (drop (p.equals + 1) l)) e ∙ ap (take (p.end - (p.equals + 1))) (drop_at w v (p.equals + 1) n)
+      ∙ take_at f.stored (0x00 ∷ (pairs_bytes f.after ++ r.rest)) (p.end - (p.equals + 1)) k

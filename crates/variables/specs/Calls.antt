@@ -3,9 +3,7 @@ use Rattle.std.specs.Prelude.{ℕ, ◌+◌, cond, List, [], length, ltb}
 use Rattle.lists.specs.Pasted.{pasted}
 use Rattle.errors.specs.declared.Error.{Error}
 use Rattle.errors.specs.declared.Error.TheVariants.{BadArea, BadName, NoVariable, NoRoom, ShortBuffer}
-use Rattle.names.specs.declared.NameCheck.{NameCheck}
-use Rattle.names.specs.declared.NameCheck.TheVariants.{Good}
-use Rattle.names.specs.Name.{name_check, on_check}
+use Rattle.names.specs.Name.{NameCheck, good, name_check, on_check}
 use Rattle.pairs.specs.Area.{Pair, pairs_bytes, Parse, parsed, faulty, parse}
 use Rattle.variables.specs.Edits.{area_bytes, set_pair, remove_pair, normalize_pairs, Lookup, found, missing, lookup}
 
@@ -48,8 +46,8 @@ lent count = []
 -- what the check of the caller's name finds; a call that takes none has nothing wrong
 unfoldable pub call_check : Call → NameCheck
 call_check (named name action) = name_check name
-call_check normalize = Good
-call_check count = Good
+call_check normalize = good
+call_check count = good
 
 -- done, with the length or count that is answered; or refused
 pub data Reply : Type 0 where

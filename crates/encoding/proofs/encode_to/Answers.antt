@@ -8,8 +8,7 @@ use lib.Seq.{length-take-le}
 use Rattle.lists.specs.Pasted.{pasted}
 use Rattle.lists.proofs.FindLaws.{until-short}
 use Rattle.values.proofs.WrittenLaws.{tail-put}
-use Rattle.encoding.proofs.EncodeTurns.{leading_length, run-smaller, piece-smaller, encoding-none}
-use Rattle.encoding.proofs.EncodeTurns.{run_fits, run-turn, piece-room, piece-turn, encoding-all}
+use Rattle.encoding.proofs.EncodeTurns.{leading_length, run-smaller, piece-smaller, encoding-none, run_fits, run-turn, piece-room, piece-turn, encoding-all}
 use Rattle.encoding.proofs.encode_to.Goals as goal
 
 pub loop-x-init : goal.loop-x-init

@@ -2,8 +2,7 @@
 use mathlib.Core.Path.{sym, ◌∙◌}
 use native.Mathlib.Omega.{arith}
 use Rattle.lists.proofs.FindLaws.{until-short}
-use Rattle.encoding.proofs.EncodeTurns.{leading_length, run-smaller, piece-smaller}
-use Rattle.encoding.proofs.EncodeTurns.{counted-bound, counted-run, counted-piece, counted-all}
+use Rattle.encoding.proofs.EncodeTurns.{leading_length, run-smaller, piece-smaller, counted-bound, counted-run, counted-piece, counted-all}
 use Rattle.encoding.proofs.encoded_len.Goals as goal
 
 pub split_at-requires : goal.split_at-requires

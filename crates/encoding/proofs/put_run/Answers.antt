@@ -3,8 +3,7 @@ use native.Mathlib.Omega.{arith}
 use lib.ListN.{length}
 use borrow.Rule.Slice.PartMut.{mid_len}
 use Rattle.values.proofs.WrittenLaws.{tail-put}
-use Rattle.encoding.proofs.EncodeTurns.{escaping-none, full-fits, full-turn}
-use Rattle.encoding.proofs.EncodeTurns.{even_place, even-all, rest-fits, rest-place, rest_all}
+use Rattle.encoding.proofs.EncodeTurns.{escaping-none, full-fits, full-turn, even_place, even-all, rest-fits, rest-place, rest_all}
 use Rattle.encoding.proofs.put_run.Goals as goal
 
 pub loop-init : goal.loop-init

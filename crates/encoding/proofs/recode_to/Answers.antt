@@ -8,9 +8,7 @@ use borrow.Rule.Slice.PartMut.{mid_len}
 use Rattle.lists.proofs.PastedLaws.{length-pasted}
 use Rattle.values.proofs.WrittenLaws.{tail-put}
 use Rattle.encoding.proofs.RecodeLaws.{recodable-told}
-use Rattle.encoding.proofs.RecodeTurns.{recoding-none, recoding-same, flush-fits, two_in}
-use Rattle.encoding.proofs.RecodeTurns.{same_turn, full-room, full-turn, other-turn, some_bytes}
-use Rattle.encoding.proofs.RecodeTurns.{piece-in, move-fits, piece-turn, recoding-place, recoding-all}
+use Rattle.encoding.proofs.RecodeTurns.{recoding-none, recoding-same, flush-fits, two_in, same_turn, full-room, full-turn, other-turn, some_bytes, piece-in, move-fits, piece-turn, recoding-place, recoding-all}
 use borrow.Author.Rules.{rules}
 use Rattle.encoding.proofs.recode_to.Goals as goal
 

@@ -3,10 +3,10 @@ use native.Mathlib.Omega.{arith}
 use Rattle.listing.proofs.WordLaws.{length-digit, length_more, decimal-within}
 use Rattle.listing.proofs.decimal_len.Goals as goal
 
-pub loop-m-preserved : goal.loop-m-preserved
-loop-m-preserved c = omega (arith, length_more c.loop-m.m c.loop-m-test.true)
+pub loop-left-preserved : goal.loop-left-preserved
+loop-left-preserved c = omega (arith, length_more c.loop-left.left c.loop-left-test.true)
 
 pub returns : goal.returns
 returns c =
     omega
-    (arith, length-digit c.loop-m.m c.loop-m-test.false, decimal-within 19 c.args.n (omega arith))
+    (arith, length-digit c.loop-left.left c.loop-left-test.false, decimal-within 19 c.args.n (omega arith))

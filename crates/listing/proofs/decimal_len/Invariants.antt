@@ -5,8 +5,8 @@ use lib.ListN.{length}
 use Rattle.listing.specs.Text.{decimal}
 use Rattle.listing.proofs.decimal_len.Given as goal
 
-abbrev pub invariant-loop-m : goal.invariant-loop-m
-invariant-loop-m l = (l.len + length (decimal l.m) ≡ 1 + length (decimal l.n)) × (l.len + l.m ≤ l.n + 1)
+abbrev pub invariant-loop-left : goal.invariant-loop-left
+invariant-loop-left l = (l.len + length (decimal l.left) ≡ 1 + length (decimal l.n)) × (l.len + l.left ≤ l.n + 1)
 
-abbrev pub decreases-loop-m : goal.decreases-loop-m
-decreases-loop-m l = l.m
+abbrev pub decreases-loop-left : goal.decreases-loop-left
+decreases-loop-left l = l.left

@@ -1,22 +1,21 @@
 -- `line_len` meets its contract.
-use Prim.Native.Nat.{◌≤◌}
-use native.Mathlib.Omega.{arith}
-use Rattle.listing.proofs.WordLaws.{line-sum, read-twelve}
+use Rattle.std.proofs.Common.{◌≡◌, ◌∙◌, ap, arith, length}
+use Rattle.header.specs.declared.Header.{Header}
+use Rattle.header.specs.Header.{header_at}
+use Rattle.listing.specs.Text.{shown_name}
+use Rattle.listing.proofs.WordLaws.{shown_length, name_twelve, line_length}
 use Rattle.listing.proofs.line_len.Goals as goal
-use Rattle.listing.proofs.line_len.Goals.{After-header_name_len}
+use Rattle.listing.proofs.line_len.Goals.{After-name_len}
 
--- the name has at most twelve bytes
-named : (c : After-header_name_len) → c.header_name_len.result ≤ 12
-named c = read-twelve c.args.image.now c.args.p.offset c.read.result c.read.ensures _ c.header_name_len.ensures
+-- the bytes that are shown of the name
+shown : (c : After-name_len) → c.name_len.result ≡ length (shown_name (header_at c.args.image.now c.args.p.offset).name)
+shown c = c.name_len.ensures ∙ shown_length _ ∙ ap (λ (h : Header). length (shown_name h.name)) c.read.ensures
 
 pub overflow_add-result-2 : goal.overflow_add-result-2
-overflow_add-result-2 c = omega (arith, named (goal.at.overflow_add-result-2 c).After-header_name_len)
+overflow_add-result-2 c = omega (arith, shown (goal.at.overflow_add-result-2 c).After-name_len, name_twelve c.args.image.now c.args.p.offset)
 
 pub overflow_add-result-3 : goal.overflow_add-result-3
-overflow_add-result-3 c = omega (arith, named (goal.at.overflow_add-result-3 c).After-header_name_len)
+overflow_add-result-3 c = omega (arith, shown (goal.at.overflow_add-result-3 c).After-name_len, name_twelve c.args.image.now c.args.p.offset)
 
 pub returns : goal.returns
-returns c =
-    let a = c.args in
-    line-sum a.image.now a.p c.read.result c.read.ensures _ _ _
-    c.decimal_len-place.ensures.value c.decimal_len-blocks.ensures.value c.header_name_len.ensures
+returns c = omega (arith, shown (goal.at.returns c).After-name_len, line_length c.args.image.now c.args.p)

@@ -6,28 +6,18 @@ use Rattle.listing.proofs.listing.Goals as goal
 
 pub returns-then-image-gt-MAX_LISTED : goal.returns-then-image-gt-MAX_LISTED
 returns-then-image-gt-MAX_LISTED c =
-    let a = c.args in
-    let e = c.list_piece.ensures in
-    let t = listed-as _ a.text.now (sym (text-too-long a.image.now c.if-image-gt-MAX_LISTED.true)) (e.value, e.text_after) in
-    record { value = t.0; text_after = t.1 }
+    listed-as _ c.args.text.now (sym (text-too-long c.args.image.now c.if-image-gt-MAX_LISTED.true)) c.list_piece.ensures
 
 pub list_accepted-requires : goal.list_accepted-requires
 list_accepted-requires c =
-    record { image_len_bound = c.if-image-gt-MAX_LISTED.false; image_value = sym c.measure-measured.ensures ∙ c.in-Lines.is }
+    record { image_len_bound = c.if-image-gt-MAX_LISTED.false; image_value = sym c.measure.ensures ∙ c.in-Ok.is }
 
-pub returns-in-Lines : goal.returns-in-Lines
-returns-in-Lines c =
-    let a = c.args in
-    let e = c.list_accepted.ensures in
-    let t = listed-as _ a.text.now (sym (text-by-walk a.image.now c.if-image-gt-MAX_LISTED.false)) (e.value, e.text_after) in
-    record { value = t.0; text_after = t.1 }
+pub returns-in-Ok : goal.returns-in-Ok
+returns-in-Ok c =
+    listed-as _ c.args.text.now (sym (text-by-walk c.args.image.now c.if-image-gt-MAX_LISTED.false)) c.list_accepted.ensures
 
-pub returns-in-Broken : goal.returns-in-Broken
-returns-in-Broken c =
-    let a = c.args in
-    let g = c.in-Broken in
-    let e = c.list_refused.ensures in
-    let t = listed-as _ a.text.now
-    (measured-broken a.image.now g.e (sym c.measure-measured.ensures ∙ g.is) ∙ sym (text-by-walk a.image.now c.if-image-gt-MAX_LISTED.false))
-    (e.value, e.text_after) in
-    record { value = t.0; text_after = t.1 }
+pub returns-in-Err : goal.returns-in-Err
+returns-in-Err c =
+    let image = c.args.image.now in
+    let refused = measured-broken image c.in-Err.e (sym c.measure.ensures ∙ c.in-Err.is) in
+    listed-as _ c.args.text.now (refused ∙ sym (text-by-walk image c.if-image-gt-MAX_LISTED.false)) c.list_refused.ensures

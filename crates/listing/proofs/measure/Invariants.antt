@@ -4,8 +4,8 @@ use lib.ListN.{length}
 use Rattle.listing.proofs.LinesLaws.{Measuring}
 use Rattle.listing.proofs.measure.Given as goal
 
-abbrev pub invariant-loop-p : goal.invariant-loop-p
-invariant-loop-p l = Measuring l.image l.cursor.at l.bytes l.blocks
+abbrev pub invariant-loop-step : goal.invariant-loop-step
+invariant-loop-step l = Measuring l.image l.cursor.at l.bytes l.blocks
 
-abbrev pub decreases-loop-p : goal.decreases-loop-p
-decreases-loop-p l = length l.image - l.cursor.at
+abbrev pub decreases-loop-step : goal.decreases-loop-step
+decreases-loop-step l = length l.image - l.cursor.at

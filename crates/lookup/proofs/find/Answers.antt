@@ -1,6 +1,12 @@
 -- `lookup::find` meets its contract: the search takes the first match.
-use mathlib.Core.Path.{◌∙◌}
+use mathlib.Core.Path.{ap, sym, ◌∙◌}
+use Rattle.errors.proofs.Passed.{passed-on}
+use Rattle.lookup.specs.Helpers.{searched_found}
 use Rattle.lookup.proofs.find.Goals as goal
 
+pub returns-in_err-seek : goal.returns-in_err-seek
+returns-in_err-seek c =
+    passed-on c.from_residual.result _ c.from_residual.ensures.1 ∙ ap searched_found (sym c.in_err-seek.was) ∙ c.seek.ensures
+
 pub returns : goal.returns
-returns c = c.searched_found.ensures ∙ c.seek.ensures
+returns c = c.found.ensures ∙ ap searched_found (sym c.in_ok-seek.was) ∙ c.seek.ensures

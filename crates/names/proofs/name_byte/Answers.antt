@@ -1,8 +1,9 @@
 -- `names::name_byte` meets its contract: the table is the rule tabulated.
 use borrow.Author.Rules.{rules}
-use Rattle.names.proofs.Marks.{marks, marked}
+use mathlib.Core.Path.{ap, ◌∙◌}
+use Rattle.names.specs.Name.{name_byte}
+use Rattle.names.proofs.Marks.{marked}
 use Rattle.names.proofs.name_byte.Goals as goal
 
 pub returns : goal.returns
-unfolding marks
-returns c = marked c.args.b (search rules)
+returns c = marked c.from.result (search rules) ∙ ap name_byte c.from.ensures

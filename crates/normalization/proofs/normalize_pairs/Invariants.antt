@@ -4,8 +4,8 @@ use lib.ListN.{length}
 use Rattle.normalization.proofs.NormalizeLaws.{Normalizing}
 use Rattle.normalization.proofs.normalize_pairs.Given as goal
 
-abbrev pub invariant-loop-equals : goal.invariant-loop-equals
-invariant-loop-equals l = Normalizing l.initial.area l.area l.at l.to
+abbrev pub invariant-loop-pair : goal.invariant-loop-pair
+invariant-loop-pair l = Normalizing l.initial.area l.area l.at l.to
 
-abbrev pub decreases-loop-equals : goal.decreases-loop-equals
-decreases-loop-equals l = length l.initial.area - l.at
+abbrev pub decreases-loop-pair : goal.decreases-loop-pair
+decreases-loop-pair l = length l.initial.area - l.at

@@ -1,17 +1,10 @@
 -- What is written was put into the buffer, so it lies inside it.
-use Rattle.std.proofs.Common.{ℕ, List, ◌≡◌, ◌≤◌, arith, length, length-take-le, sym}
-use Rattle.listing.specs.Listed.{listed_of}
-use Rattle.listing.specs.declared.Listed.TheVariants.{Written}
+use Rattle.std.proofs.Common.{arith, length-take-le, sym}
 use Rattle.listing.proofs.PieceLaws.{written-inside}
 use Rattle.nvlist.proofs.main.Goals as goal
 
-inside : (t buffer new : List ℕ) (n : ℕ) → Written n ≡ listed_of t (length buffer) → length new ≡ length buffer → n ≤ length new
-inside t buffer new n e same =
-    let h = written-inside t (length buffer) n (sym e) in
-    omega arith
-
 pub slice_bounds-text-end : goal.slice_bounds-text-end
-slice_bounds-text-end c = inside _ _ _ _ c.in-Written.ensures.value c.listing-listed.auto.text
+slice_bounds-text-end c = omega (arith, written-inside _ _ _ (sym c.in-Ok.ensures.value))
 
 pub slice_bounds-write_all-end : goal.slice_bounds-write_all-end
-slice_bounds-write_all-end c = sym (length-take-le _ _ (inside _ _ _ _ c.in-Written.ensures.value c.listing-listed.auto.text))
+slice_bounds-write_all-end c = sym (length-take-le _ _ (omega (arith, written-inside _ _ _ (sym c.in-Ok.ensures.value))))

@@ -7,10 +7,7 @@ use Rattle.pairs.proofs.FindPlaces.{Finding, Compared}
 use Rattle.pairs.proofs.scan.Given as goal
 
 abbrev pub invariant-loop-k : goal.invariant-loop-k
-invariant-loop-k l = Compared l.area l.name l.start l.equals l.k
-
-abbrev pub decreases-loop-k : goal.decreases-loop-k
-decreases-loop-k l = length l.name - l.k
+invariant-loop-k l = (Compared l.area l.name l.pair.start l.pair.equals l.k)
 
 abbrev pub invariant-pairs : goal.invariant-pairs
 invariant-pairs l = Walked l.area l.at l.count × Finding l.area l.name l.place l.at

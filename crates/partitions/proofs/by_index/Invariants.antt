@@ -2,14 +2,14 @@
 use Prim.Native.Nat.{◌-◌}
 use mathlib.Core.Path.{◌≡◌}
 use lib.ListN.{length}
-use Rattle.partitions.specs.declared.Found.TheVariants.{Refused}
+use Rattle.std.specs.Prelude.{Err}
 use Rattle.partitions.specs.Find.{index_of}
 use Rattle.partitions.proofs.WalkLaws.{rest, on_walk}
 use Rattle.partitions.proofs.FindLaws.{seek_index}
 use Rattle.partitions.proofs.by_index.Given as goal
 
-abbrev pub invariant-loop-p : goal.invariant-loop-p
-invariant-loop-p l = on_walk (seek_index l.best l.left) Refused (rest l.image l.cursor.at) ≡ index_of l.image l.index
+abbrev pub invariant-loop-step : goal.invariant-loop-step
+invariant-loop-step l = on_walk (seek_index l.found l.left) Err (rest l.image l.cursor.at) ≡ index_of l.image l.index
 
-abbrev pub decreases-loop-p : goal.decreases-loop-p
-decreases-loop-p l = length l.image - l.cursor.at
+abbrev pub decreases-loop-step : goal.decreases-loop-step
+decreases-loop-step l = length l.image - l.cursor.at

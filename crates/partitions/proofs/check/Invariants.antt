@@ -4,8 +4,8 @@ use lib.ListN.{length}
 use Rattle.partitions.proofs.CheckLaws.{Counting}
 use Rattle.partitions.proofs.check.Given as goal
 
-abbrev pub invariant-loop-next : goal.invariant-loop-next
-invariant-loop-next l = Counting l.image l.cursor.at l.count
+abbrev pub invariant-loop-step : goal.invariant-loop-step
+invariant-loop-step l = Counting l.image l.cursor.at l.count
 
-abbrev pub decreases-loop-next : goal.decreases-loop-next
-decreases-loop-next l = length l.image - l.cursor.at
+abbrev pub decreases-loop-step : goal.decreases-loop-step
+decreases-loop-step l = length l.image - l.cursor.at

@@ -3,8 +3,7 @@ use native.Mathlib.Omega.{arith}
 use lib.ListN.{drop_of_length-le}
 use Rattle.lists.proofs.ListLaws.{drop-next}
 use Rattle.lists.proofs.MoveLaws.{part_filled}
-use Rattle.values.proofs.DecodeTurns.{decoding-none, run_room, run-turn, open-turn, byte-room, byte-turn}
-use Rattle.values.proofs.DecodeTurns.{decoding-all, decoding-len, decoding-end}
+use Rattle.values.proofs.DecodeTurns.{decoding-none, run_room, run-turn, open-turn, byte-room, byte-turn, decoding-all, decoding-len, decoding-end}
 use borrow.Author.Rules.{rules}
 use Rattle.values.proofs.decode_few.Goals.{then-open, else-open+then-b, else-open+else-b}
 use Rattle.values.proofs.decode_few.Goals as goal
