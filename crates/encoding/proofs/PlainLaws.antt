@@ -6,7 +6,7 @@ use mathlib.Core.List.{List, [], ◌∷◌}
 use native.Mathlib.Omega.{arith}
 use lib.Dec.{ltb}
 use lib.ListN.{length, get_or, take, drop, length-take, length-drop, drop_of_length-le}
-use lib.Seq.{length-take-le, take-take, take_all, take-add}
+use lib.Seq.{length-take-le, take_all, take-add}
 use borrow.Author.Tests.{ltb-true, ltb-false}
 use Rattle.lists.specs.Helpers.{until_either}
 use Rattle.lists.proofs.Tests.{split}
@@ -65,21 +65,17 @@ module _ (k : ℕ) (l : List ℕ) (h : k ≤ length l) {n : ℕ} (q : n ≡ unti
   found-far m {e} p = omega (arith, until_skip 0 255 l k (until-far k l h (omega (arith, length-take-le k l h))))
 
   -- the same where they are written to d
-  module _ (d : List ℕ) {b : List ℕ} (w : b ≡ pasted d 0 (take n (take k l))) where
-    pub few-put : n < k → b ≡ pasted d 0 (take n l)
-    few-put m = w ∙ ap (pasted d 0) (take-take n k l (omega arith))
+  module _ (d : List ℕ) {b : List ℕ} (w : b ≡ pasted d 0 (take n (take k l))) (m : k ≤ n) {e : ℕ} (p : e ≡ k + until_either 0 255 (drop k l)) where
+    near-put : b ≡ pasted d 0 (take k l)
+    near-put = w ∙ ap (pasted d 0) (take_all n (take k l) (omega (arith, length-take-le k l h)))
 
-    module _ (m : k ≤ n) {e : ℕ} (p : e ≡ k + until_either 0 255 (drop k l)) where
-      near-put : b ≡ pasted d 0 (take k l)
-      near-put = w ∙ ap (pasted d 0) (take_all n (take k l) (omega (arith, length-take-le k l h)))
-
-      pub many-put : until_either 0 255 l ≤ length d → {b' : List ℕ} → b' ≡ pasted b k (take (e - k) (drop k l)) → b' ≡ pasted d 0 (take e l)
-      many-put r v =
-          let t : length (take k l) ≡ k = length-take-le k l h in
-          let u : 0 + length (take k l) ≡ k = omega arith in
-          let z : k + (e - k) ≡ e = omega arith in
-          v ∙ ap (λ (c : List ℕ). pasted c k (take (e - k) (drop k l))) near-put
-          ∙ ap (λ (j : ℕ). pasted (pasted d 0 (take k l)) j (take (e - k) (drop k l))) (sym u)
-          ∙ pasted-more d 0 (take k l) (omega (arith, found-far m p)) (take (e - k) (drop k l))
-          (omega (arith, found-far m p, length-take (e - k) (drop k l), length-drop k l, until-short 0 255 l))
-          ∙ ap (pasted d 0) (sym (take-add k (e - k) l) ∙ ap (λ (j : ℕ). take j l) z)
+    pub many-put : until_either 0 255 l ≤ length d → {b' : List ℕ} → b' ≡ pasted b k (take (e - k) (drop k l)) → b' ≡ pasted d 0 (take e l)
+    many-put r v =
+        let t : length (take k l) ≡ k = length-take-le k l h in
+        let u : 0 + length (take k l) ≡ k = omega arith in
+        let z : k + (e - k) ≡ e = omega arith in
+        v ∙ ap (λ (c : List ℕ). pasted c k (take (e - k) (drop k l))) near-put
+        ∙ ap (λ (j : ℕ). pasted (pasted d 0 (take k l)) j (take (e - k) (drop k l))) (sym u)
+        ∙ pasted-more d 0 (take k l) (omega (arith, found-far m p)) (take (e - k) (drop k l))
+        (omega (arith, found-far m p, length-take (e - k) (drop k l), length-drop k l, until-short 0 255 l))
+        ∙ ap (pasted d 0) (sym (take-add k (e - k) l) ∙ ap (λ (j : ℕ). take j l) z)

@@ -9,6 +9,7 @@ ghost use Rattle.values.specs.Helpers.{recodable, recoded, recoded_of, recoded_i
 ghost use Rattle.encoding.specs.Helpers.{leading};
 
 // The top bit of an escape's second byte, by the byte that it repeats.
+#[tactic(auto, unfolding(values::specs::Value::mark))]
 fn mark_of(b: u8) -> u8
     ensures { (result ≡ mark b) × (result ≤ 128) }
 {

@@ -1,19 +1,11 @@
--- The laws of `first_stop` and `next_stop`.
+-- The laws of `next_stop`.
 use Prim.Native.Nat.{ℕ, ◌+◌, ◌-◌, ◌≤◌, ◌<◌}
 use mathlib.Core.Path.{◌≡◌}
 use native.Mathlib.Omega.{arith}
 use lib.Dec.{ltb}
 use borrow.Author.Tests.{lt-ltb, le-ltb, ltb-true, ltb-false}
 use Rattle.lists.proofs.Tests.{split}
-use Rattle.values.specs.Helpers.{first_stop, next_stop}
-
-pub first-few : (len : ℕ) → len < 16 → len ≡ first_stop len
-unfolding first_stop
-first-few len h = rw (lt-ltb len 16 h)
-
-pub first-many : (len : ℕ) → 16 ≤ len → 0 ≡ first_stop len
-unfolding first_stop
-first-many len h = rw (le-ltb len 16 h)
+use Rattle.values.specs.Helpers.{next_stop}
 
 module _ (from len : ℕ) where
   pub next-few : len - from < 128 → len ≡ next_stop from len

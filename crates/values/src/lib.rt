@@ -7,6 +7,7 @@ ghost use Rattle.values.specs.Value.{run_byte, decode_from, decode, written_of};
 ghost use Rattle.values.specs.Helpers.{opened, first_stop, next_stop};
 
 // The offset up to which bytes are taken one by one before a long piece is looked for: at the start at once, unless there are few bytes.
+#[tactic(auto, unfolding(crate::specs::Helpers::first_stop))]
 pub fn first_stop(len: usize) -> usize
     ensures { result ≡ first_stop len }
 {
@@ -14,6 +15,7 @@ pub fn first_stop(len: usize) -> usize
 }
 
 // The next such offset, after `from`: where there is one escape there are often more.
+#[tactic(auto, unfolding(crate::specs::Helpers::next_stop))]
 pub fn next_stop(from: usize, len: usize) -> usize
     ensures { result ≡ next_stop from len }
 {
@@ -24,6 +26,7 @@ pub fn next_stop(from: usize, len: usize) -> usize
 }
 
 // The byte that an escape repeats, by its second byte.
+#[tactic(auto, unfolding(crate::specs::Value::run_byte))]
 pub fn run_byte(c: u8) -> u8
     ensures { result ≡ run_byte c }
 {

@@ -1,10 +1,7 @@
 -- `encoding::plain_len` meets its contract. The loop's invariant: the bytes up to i stand for themselves.
-use Prim.Native.Nat.{ℕ, ◌+◌}
-use mathlib.Core.Path.{◌≡◌, sym, ap, ◌∙◌}
+use mathlib.Core.Path.{sym, ap, ◌∙◌}
 use native.Mathlib.Omega.{arith}
-use lib.ListN.{drop}
 use lib.Seq.{length-take-le, get_or-take}
-use Rattle.lists.specs.Helpers.{until_either}
 use Rattle.values.specs.Value.{escaped}
 use Rattle.encoding.proofs.PlainLaws.{near-here, near-next}
 use Rattle.encoding.proofs.plain_len.Goals as goal
@@ -26,11 +23,3 @@ loop-i-preserved c =
     let n = length-take-le k s (omega (arith, c.min-near.ensures)) in
     near-next s i c.loop-i.invariant (omega (arith, n, c.min-near.ensures))
     (ap escaped (sym (get_or-take k s i 0 (omega (arith, n)))) ∙ sym c.is_escaped.ensures ∙ c.if-is_escaped.false)
-
-pub returns : goal.returns
-returns c =
-    let k = c.min-near.result in
-    let s = c.args.bytes.now in
-    let n = length-take-le k s (omega (arith, c.min-near.ensures)) in
-    let e : c.loop-i.i ≡ k = omega (arith, n) in
-    c.find_either.ensures ∙ ap (λ (j : ℕ). j + until_either 0 255 (drop j s)) (sym e) ∙ sym c.loop-i.invariant

@@ -1,9 +1,7 @@
 -- `encoding::put_near` meets its contract. The loop's invariant: the bytes up to i stand for themselves and are in the buffer.
-use Prim.Native.Nat.{ℕ}
-use mathlib.Core.Path.{◌≡◌, sym, ap, ◌∙◌}
+use mathlib.Core.Path.{sym, ap, ◌∙◌}
 use native.Mathlib.Omega.{arith}
-use lib.ListN.{length, get_or, set, take}
-use Rattle.lists.specs.Pasted.{pasted}
+use lib.ListN.{get_or, set}
 use Rattle.lists.proofs.PastedLaws.{pasted-none, copy_step}
 use Rattle.encoding.proofs.PlainLaws.{near-here, near-next, near-room, near-all}
 use borrow.Author.Rules.{rules}
@@ -16,9 +14,6 @@ pub returns-then-is_escaped-clause-value : goal.returns-then-is_escaped-clause-v
 returns-then-is_escaped-clause-value c =
     let l = c.loop-i in
     near-here c.args.bytes.now l.i l.invariant.0 c.loop-i-test.true (sym c.is_escaped.ensures ∙ c.if-is_escaped.true)
-
-pub returns-then-is_escaped-clause-buffer_after : goal.returns-then-is_escaped-clause-buffer_after
-returns-then-is_escaped-clause-buffer_after c = c.loop-i.invariant.1
 
 pub bounds-buffer-i : goal.bounds-buffer-i
 bounds-buffer-i c =
@@ -39,9 +34,3 @@ pub returns-clause-value : goal.returns-clause-value
 returns-clause-value c =
     let l = c.loop-i in
     omega (arith, near-all c.args.bytes.now l.i l.invariant.0 (search rules))
-
-pub returns-clause-buffer_after : goal.returns-clause-buffer_after
-returns-clause-buffer_after c =
-    let l = c.loop-i in
-    let e : l.i ≡ length c.args.bytes.now = omega arith in
-    l.invariant.1 ∙ ap (λ (n : ℕ). pasted c.args.buffer.now 0 (take n c.args.bytes.now)) e

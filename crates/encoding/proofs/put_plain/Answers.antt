@@ -4,7 +4,7 @@ use native.Mathlib.Omega.{arith}
 use lib.ListN.{take, drop, length-take, length-drop}
 use Rattle.lists.proofs.FindLaws.{until-short}
 use Rattle.values.proofs.WrittenLaws.{tail-copied}
-use Rattle.encoding.proofs.PlainLaws.{until-less, found-near, found-far, few-put, many-put}
+use Rattle.encoding.proofs.PlainLaws.{until-less, found-near, found-far, many-put}
 use Rattle.encoding.proofs.put_plain.Goals as goal
 
 pub put_near-n-requires : goal.put_near-n-requires
@@ -14,11 +14,6 @@ pub returns-then-n-near-clause-value : goal.returns-then-n-near-clause-value
 returns-then-n-near-clause-value c =
     let n = c.put_near-n.ensures in
     found-near c.min-near.result c.args.bytes.now (omega (arith, c.min-near.ensures)) n.value c.if-n-near.true
-
-pub returns-then-n-near-clause-buffer_after : goal.returns-then-n-near-clause-buffer_after
-returns-then-n-near-clause-buffer_after c =
-    let n = c.put_near-n.ensures in
-    few-put c.min-near.result c.args.bytes.now (omega (arith, c.min-near.ensures)) n.value c.args.buffer.now n.buffer_after c.if-n-near.true
 
 pub slice_bounds-copy-end : goal.slice_bounds-copy-end
 slice_bounds-copy-end c =

@@ -9,16 +9,10 @@ use Rattle.encoding.proofs.put_run.Goals as goal
 pub loop-init : goal.loop-init
 loop-init c = escaping-none _ c.args.n _ _ (omega (arith, c.requires))
 
-pub slice_bounds-put_escape-count : goal.slice_bounds-put_escape-count
-slice_bounds-put_escape-count c = omega (arith, full-fits c.loop.invariant (omega arith))
-
 pub put_escape-requires : goal.put_escape-requires
 put_escape-requires c =
     let l = c.loop in
     omega (arith, full-fits l.invariant (omega arith), mid_len l.put (length l.buffer) l.buffer (omega arith))
-
-pub overflow_add-put : goal.overflow_add-put
-overflow_add-put c = omega (arith, full-fits c.loop.invariant (omega arith))
 
 pub loop-preserved : goal.loop-preserved
 loop-preserved c =
@@ -32,16 +26,10 @@ returns-then-rest-eq0-clause-value c = omega (arith, even_place c.loop.invariant
 pub returns-then-rest-eq0-clause-buffer_after : goal.returns-then-rest-eq0-clause-buffer_after
 returns-then-rest-eq0-clause-buffer_after c = even-all c.loop.invariant c.loop-test.false c.if-rest-eq0.true
 
-pub slice_bounds-put_escape-count-2 : goal.slice_bounds-put_escape-count-2
-slice_bounds-put_escape-count-2 c = omega (arith, rest-fits c.loop.invariant c.loop-test.false c.if-rest-eq0.false)
-
 pub put_escape-requires-2 : goal.put_escape-requires-2
 put_escape-requires-2 c =
     let l = c.loop in
     omega (arith, rest-fits l.invariant c.loop-test.false c.if-rest-eq0.false, mid_len l.put (length l.buffer) l.buffer (omega arith))
-
-pub overflow_add-result : goal.overflow_add-result
-overflow_add-result c = omega (arith, rest-fits c.loop.invariant c.loop-test.false c.if-rest-eq0.false)
 
 pub returns-clause-value : goal.returns-clause-value
 returns-clause-value c =

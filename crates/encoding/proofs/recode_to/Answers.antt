@@ -18,23 +18,10 @@ loop-i-init c = recoding-none _ _ _ _ (recodable-told _ _ _ _ c.requires)
 pub bounds-area-i : goal.bounds-area-i
 bounds-area-i c = let s = c.loop-i.invariant in omega (arith, recoding-same s, s.inside)
 
-pub overflow_add-i : goal.overflow_add-i
-overflow_add-i c = let s = c.loop-i.invariant in omega (arith, recoding-same s, s.inside)
-
 pub bounds-area-i-then-area-i : goal.bounds-area-i-then-area-i
 bounds-area-i-then-area-i c =
     let s = c.loop-i.invariant in
     omega (arith, recoding-same s, s.inside, two_in s (search rules) c.if-area-i.true)
-
-pub overflow_add-i-then-area-i : goal.overflow_add-i-then-area-i
-overflow_add-i-then-area-i c =
-    let s = c.loop-i.invariant in
-    omega (arith, recoding-same s, s.inside, two_in s (search rules) c.if-area-i.true)
-
-pub put_run-o-requires : goal.put_run-o-requires
-put_run-o-requires c =
-    let l = c.loop-i in
-    omega (arith, flush-fits l.invariant, mid_len l.o (length l.area) l.area (omega arith))
 
 pub loop-i-preserved-then-y-b : goal.loop-i-preserved-then-y-b
 loop-i-preserved-then-y-b c =
@@ -44,9 +31,6 @@ loop-i-preserved-then-y-b c =
     (other-turn l.invariant (search rules) c.if-area-i.true c.run_byte-y.ensures
     (omega (arith, c.type_inv.area (l.i + 1))) c.if-y-b.true (ap (λ (n : ℕ). l.o + n) p.ensures.value)
     (tail-put l.area l.o _ p.new.buffer (flush-fits l.invariant) p.ensures.buffer_after))
-
-pub overflow_add-n : goal.overflow_add-n
-overflow_add-n c = omega (arith, c.loop-i.invariant.few)
 
 pub loop-i-preserved-then-n-k-le127 : goal.loop-i-preserved-then-n-k-le127
 loop-i-preserved-then-n-k-le127 c =

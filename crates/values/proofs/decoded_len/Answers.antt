@@ -3,14 +3,11 @@ use Prim.Native.Nat.{◌<◌}
 use mathlib.Core.Path.{sym, ap}
 use native.Mathlib.Omega.{arith}
 use lib.ListN.{length}
-use Rattle.values.proofs.DecodeTurns.{measured-none, measured-piece, measured-few, measured-len, decode-begins, none-left}
+use Rattle.values.proofs.DecodeTurns.{measured-piece, measured-few, measured-len, decode-begins, none-left}
 use Rattle.values.proofs.StopLaws.{few-next, fewer-left}
 use Rattle.values.proofs.WrittenLaws.{written-not, count_fits}
 use borrow.Author.Rules.{rules}
 use Rattle.values.proofs.decoded_len.Goals as goal
-
-pub loop-rest-init : goal.loop-rest-init
-loop-rest-init c = (search rules, measured-none _ _)
 
 pub returns-then-room-n : goal.returns-then-room-n
 returns-then-room-n c =
