@@ -1,4 +1,4 @@
--- Laws of `until_either`: what stands at the first b or c, and before it; and the turns of the loops that look for it.
+-- Laws of `until_either`: what stands at the first b or c, and before it; and the search by chunks.
 use Prim.Native.Nat.{ℕ, suc, ◌+◌, ◌-◌, ◌<◌, ◌≤◌}
 use mathlib.Core.Path.{◌≡◌, refl, sym, ap, ◌∙◌}
 use mathlib.Core.Bool.{Bool, true, false, cond, not, ◌||◌}
@@ -6,8 +6,8 @@ use mathlib.Core.List.{List, [], ◌∷◌, ◌++◌}
 use mathlib.Core.Logic.{◌≢◌, ◌⊎◌, inl, inr}
 use native.Mathlib.Omega.{arith}
 use lib.Dec.{ltb, eqb}
-use lib.ListN.{length, get_or, take, drop, length-drop, take-append-drop}
-use lib.Seq.{get_or-drop, drop-drop, take-take, length-take-le, drop_at}
+use lib.ListN.{length, get_or, take, drop, length-drop}
+use lib.Seq.{get_or-drop, drop-drop, drop_at}
 use Rattle.std.specs.Prelude.{position, unwrap_or, fold}
 use Rattle.std.specs.List.{position_or_len}
 use Rattle.std.proofs.lemmas.List.Sums.{prefix_len-le-length, prefix_len-drop_all, fails_before_first, passes_at_first}
@@ -15,8 +15,7 @@ use borrow.Author.Tests.{eqb-true, eq-eqb, ne_eqb, ltb-true, ltb-false}
 use Rattle.lists.specs.Bytes.{Every}
 use Rattle.lists.specs.Helpers.{either, until_either}
 use Rattle.lists.proofs.Tests.{split, clash}
-use Rattle.lists.proofs.ListLaws.{drop-next}
-use Rattle.lists.proofs.ByteLaws.{every_take, every-before}
+use Rattle.lists.proofs.ByteLaws.{every-before}
 
 -- ---- the test of a byte
 
@@ -33,12 +32,6 @@ either-not b c x e = ((λ q. clash (cc (eq-eqb x b q, e))), (λ q. clash (cc (eq
 
 pub either-none : (b c x : ℕ) → x ≢ b → x ≢ c → either b c x ≡ false
 either-none b c x h k = cc (ne_eqb x b h, ne_eqb x c k)
-
-pub either_first : (b c x : ℕ) → x ≡ b → either b c x ≡ true
-either_first b c x e = cc (eq-eqb x b e)
-
-pub either_second : (b c x : ℕ) → x ≢ b → x ≡ c → either b c x ≡ true
-either_second b c x h e = cc (ne_eqb x b h, eq-eqb x c e)
 
 -- ---- one byte further
 
@@ -89,11 +82,6 @@ module _ (s : List ℕ) (from b c : ℕ) {r : ℕ} (e : r ≡ from + until_eithe
   pub either-ahead : from ≤ r
   either-ahead = omega arith
 
-  pub either-further : from < length s → get_or s from 0 ≢ b → get_or s from 0 ≢ c → from < r
-  either-further h n m =
-      let q = ap (until_either b c) (drop-next s from h) ∙ until-next b c (get_or s from 0) (drop (from + 1) s) (either-none b c (get_or s from 0) n m) in
-      omega arith
-
   pub either-inside : from ≤ length s → r ≤ length s
   either-inside h = omega (arith, until-short b c (drop from s), length-drop from s)
 
@@ -118,52 +106,6 @@ module _ (s : List ℕ) (from b c : ℕ) {r : ℕ} (e : r ≡ from + until_eithe
             (ap (either b c) (get_or-drop from s n 0) ∙ ap (λ (m : ℕ). either b c (get_or s m 0)) q ∙ t),
       )))
       (λ t. t))
-
--- ---- the bytes from `from` up to r, which is at most the offset of the first b or c
-
-module _ (s : List ℕ) (from b c : ℕ) {r : ℕ} (h : from ≤ r) (q : r ≤ from + until_either b c (drop from s)) where
-  pub plain-inside : from ≤ length s → r ≤ length s
-  plain-inside k = omega (arith, until-short b c (drop from s), length-drop from s)
-
-  pub plain-cut : drop from s ≡ take (r - from) (drop from s) ++ drop r s
-  plain-cut =
-      let e : from + (r - from) ≡ r = omega arith in
-      sym (take-append-drop (r - from) (drop from s)) ∙ ap (λ (l : List ℕ). take (r - from) (drop from s) ++ l)
-      (drop-drop (r - from) from s ∙ ap (λ (m : ℕ). drop m s) e)
-
-  pub plain-length : from ≤ length s → length (take (r - from) (drop from s)) ≡ r - from
-  plain-length k = length-take-le (r - from) (drop from s) (omega (arith, plain-inside k, length-drop from s))
-
-  pub plain-bytes : Every (λ x. either b c x ≡ false) (take (r - from) (drop from s))
-  plain-bytes =
-      rw (← take-take (r - from) (until_either b c (drop from s)) (drop from s) (omega arith))
-      (every_take (λ x. either b c x ≡ false) (r - from) (take (until_either b c (drop from s)) (drop from s)) (until-before b c (drop from s)))
-
--- the same up to the first b or c itself
-module _ (s : List ℕ) (from b c : ℕ) {r : ℕ} (e : r ≡ from + until_either b c (drop from s)) where
-  pub either-piece : drop from s ≡ take (r - from) (drop from s) ++ drop r s
-  either-piece = plain-cut s from b c (omega arith) (omega arith)
-
-  pub either-plain : Every (λ x. either b c x ≡ false) (take (r - from) (drop from s))
-  either-plain = plain-bytes s from b c (omega arith) (omega arith)
-
--- ---- one byte further from e, where no b or c stands from `from` up to e
-
-module _ (s : List ℕ) (b c from e : ℕ) (i : from + until_either b c (drop from s) ≡ e + until_either b c (drop e s)) where
-  at_first : e < length s → either b c (get_or s e 0) ≡ true → e ≡ from + until_either b c (drop from s)
-  at_first h t =
-      let first = until-first b c (drop e s) 0 (ap (either b c) (get_or-drop e s 0 0 ∙ ap (λ (k : ℕ). get_or s k 0) (omega arith)) ∙ t) in
-      omega arith
-
-  pub find_first : e < length s → get_or s e 0 ≡ b → e ≡ from + until_either b c (drop from s)
-  find_first h q = at_first h (either_first b c (get_or s e 0) q)
-
-  pub find-second : e < length s → get_or s e 0 ≢ b → get_or s e 0 ≡ c → e ≡ from + until_either b c (drop from s)
-  find-second h n q = at_first h (either_second b c (get_or s e 0) n q)
-
-  pub find-next : e < length s → get_or s e 0 ≢ b → get_or s e 0 ≢ c → from + until_either b c (drop from s) ≡ e + 1 + until_either b c (drop (e + 1) s)
-  find-next h n m =
-      omega (arith, ap (until_either b c) (drop-next s e h) ∙ until-next b c (get_or s e 0) (drop (e + 1) s) (either-none b c (get_or s e 0) n m))
 
 -- ---- the search by chunks
 
