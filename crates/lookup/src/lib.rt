@@ -68,7 +68,9 @@ impl Matched {
 }
 
 // A search for this signature and a name that matches this one, for the first partition or for the only one: what matches.
-// A closure for whether one more match counts would say no more than the flag `only`.
+// A closure for whether one more match counts would say no more than the flag `only`. Inlined, since each caller's walk is then
+// compiled for its flag; a count of very many partitions takes a third more otherwise.
+#[inline(always)]
 fn seek(image: &[u8], signature: u8, name: &[u8], only: bool) -> Result<Matched, Error>
     ensures { searched_found result ≡ seek_of only image.now signature name.now }
 {
