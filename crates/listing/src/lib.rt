@@ -87,6 +87,7 @@ fn measure(image: &[u8]) -> Result<Lines, Error>
     let mut cursor = Cursor::start();
     let mut bytes: usize = 0;
     let mut blocks: usize = 0;
+    // The form of a walk that the paper names.
     loop {
         match cursor.step(image) {
             Ok(Some(step)) => {

@@ -180,6 +180,7 @@ impl<'a> Table<'a> {
         ensures pairs { self.new.pairs ≡ self.old.pairs }
     {
         let mut at = self.from;
+        // A step is a piece, whose end a search finds: no iterator of the library goes so.
         while at < best && self.count < self.entries.len() {
             let Ok(far) = u32::try_from(at - self.from) else {
                 break;
@@ -200,6 +201,7 @@ impl<'a> Table<'a> {
         ensures { Turn self.now.pairs.now self.now.from mid result }
     {
         let mut at = mid;
+        // A step is a piece here too.
         while at < best {
             if self.walk(at).is_none() {
                 return at;
@@ -255,6 +257,7 @@ pub fn first_repeat(pairs: &[u8]) -> Option<usize>
 {
     let mut best = pairs.len();
     let mut from = 0;
+    // A step is a block, which ends where its table is full.
     while from < best {
         let turned = turn_sized(pairs, from, best);
         from = turned.mid;

@@ -45,7 +45,8 @@ fn split_plain(stored: &[u8], after: bool) -> (&[u8], &[u8])
     stored.split_at(lists::find_either(stored, 0, 255, 255))
 }
 
-// The length of what a few bytes stand for, and whether an escape's 0xFF ends them; after: one stands before them.
+// The length of what a few bytes stand for, and whether an escape's 0xFF ends them; after: one stands before them. The length holds
+// either way, so that the flag is no sign of a failure.
 fn few_len(bytes: &[u8], after: bool) -> (usize, bool)
     requires { length bytes.now ≤ 128 }
     ensures len { result.0 ≡ length (decode_from after bytes.now) }
