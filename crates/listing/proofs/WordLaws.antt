@@ -1,8 +1,9 @@
 -- Laws of the text's words: numbers in decimal and hex, names, lines, and the text of a refused image.
-use Prim.Native.Nat.{ℕ, zero, suc, ◌+◌, ◌/◌, ◌%◌, ◌^◌, ◌≤◌, ◌<◌}
+use Prim.Native.Nat.{ℕ, zero, suc, ◌+◌, ◌*◌, ◌/◌, ◌%◌, ◌^◌, ◌≤◌, ◌<◌}
 use mathlib.Core.Path.{◌≡◌, refl, sym, ap, ◌∙◌}
 use mathlib.Core.Bool.{◌&&◌, cond, not}
 use mathlib.Core.List.{List, [], ◌∷◌, ◌++◌, append_assoc}
+use native.Mathlib.Nat.{one-le-pow}
 use native.Mathlib.Numerals.{add-one}
 use native.Mathlib.Omega.{arith}
 use lib.Dec.{eqb, leb, ltb}
@@ -63,6 +64,13 @@ pub decimal-some : (n : ℕ) → 1 ≤ length (decimal n)
 decimal-some =
     by_digits (λ n. 1 ≤ length (decimal n)) (λ n h. rw (decimal_digit n h) (omega arith))
     (λ n h e. rw (decimal-more n h, length-append) (omega arith))
+
+-- a number from 10 ^ k to below 10 ^ (k + 1) has k + 1 digits
+pub decimal-power : (k n : ℕ) → 10 ^ k ≤ n → n < 10 * 10 ^ k → length (decimal n) ≡ k + 1
+decimal-power zero n l h = length-digit n (omega arith)
+decimal-power (suc k) n l h =
+    let p = one-le-pow k 10 (omega arith) in
+    omega (arith, length_more n (omega arith), decimal-power k (n / 10) (omega arith) (omega arith))
 
 -- a number below 10 ^ k has at most k digits
 pub decimal-within : (k n : ℕ) → n < 10 ^ suc k → length (decimal n) ≤ suc k

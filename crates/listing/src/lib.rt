@@ -28,14 +28,10 @@ fn decimal_len(n: usize) -> usize
     ensures value { result ≡ length (decimal n) }
     ensures upper_bound { result ≤ 20 }
 {
-    // The turns are the digits after the first: no list or range has one for each.
-    let mut left = n;
-    let mut len = 1;
-    while 10 <= left {
-        left /= 10;
-        len += 1;
+    match n.checked_ilog10() {
+        Some(power) => power as usize + 1,
+        None => 1,
     }
-    len
 }
 
 // One hex digit, in capitals.

@@ -1,12 +1,12 @@
--- `decimal_len` meets its contract. The loop's invariant: the digits counted and those of what is left are one more than the digits of the number.
-use native.Mathlib.Omega.{arith}
-use Rattle.listing.proofs.WordLaws.{length-digit, length_more, decimal-within}
+-- `decimal_len` meets its contract.
+use Rattle.std.proofs.Common.{arith}
+use Rattle.listing.proofs.WordLaws.{length-digit, decimal-power}
 use Rattle.listing.proofs.decimal_len.Goals as goal
 
-pub loop-left-preserved : goal.loop-left-preserved
-loop-left-preserved c = omega (arith, length_more c.loop-left.left c.loop-left-test.true)
+pub returns-in-Some-clause-value : goal.returns-in-Some-clause-value
+returns-in-Some-clause-value c =
+    let p = c.in-Some.ensures in
+    omega (arith, decimal-power c.in-Some.power c.args.n p.power_le p.next_power_gt)
 
-pub returns : goal.returns
-returns c =
-    omega
-    (arith, length-digit c.loop-left.left c.loop-left-test.false, decimal-within 19 c.args.n (omega arith))
+pub returns-in-None-clause-value : goal.returns-in-None-clause-value
+returns-in-None-clause-value c = omega (arith, length-digit c.args.n (omega (arith, c.in-None.ensures)))
