@@ -2,11 +2,11 @@
 use Prim.Native.Nat.{ℕ, ◌+◌, ◌-◌, ◌≤◌, ◌<◌}
 use mathlib.Core.Path.{◌≡◌, refl, sym, ap, ◌∙◌}
 use mathlib.Core.Bool.{true, false, ◌&&◌}
-use mathlib.Core.List.{List, [], ◌∷◌, ◌++◌, append_assoc}
+use mathlib.Core.List.{List, [], ◌∷◌, ◌++◌}
 use native.Mathlib.Omega.{arith}
-use lib.ListN.{length, take, drop, length-drop, take-append-drop}
+use lib.ListN.{length, take, drop, length-drop}
 use lib.Dec.{leb}
-use lib.Seq.{length-take-le, drop-drop}
+use lib.Seq.{length-take-le}
 use borrow.Author.Tests.{le-leb, leb-true}
 use Rattle.lists.specs.Pasted.{pasted}
 use Rattle.lists.specs.Helpers.{moved_bytes}
@@ -21,15 +21,6 @@ use Rattle.values.specs.Rules.{Spells}
 use Rattle.values.proofs.DecodeLaws.{spells-exactly}
 use Rattle.values.proofs.EncodeLaws.{encode-none, encode-plain, encode-more, encode-other, encode-cases, encode-shortest}
 use Rattle.values.proofs.CanonicalLaws.{full-step}
-
--- bytes written over themselves
-pub pasted-same : (d : List ℕ) (at n : ℕ) → at + n ≤ length d → d ≡ pasted d at (take n (drop at d))
-unfolding pasted
-pasted-same d at n h =
-    let k : length (take n (drop at d)) ≡ n = length-take-le n (drop at d) (omega (arith, length-drop at d)) in
-    sym (rw k (append_assoc (take at d) (take n (drop at d)) (drop (at + n) d)
-    ∙ ap (λ (r : List ℕ). take at d ++ (take n (drop at d) ++ r)) (sym (drop-drop n at d))
-    ∙ ap (λ (r : List ℕ). take at d ++ r) (take-append-drop n (drop at d)) ∙ take-append-drop at d))
 
 -- bytes moved down
 pub piece-moved : (d : List ℕ) (from to n : ℕ) → to ≤ from → from + n ≤ length d → moved_bytes d from to n ≡ pasted d to (take n (drop from d))

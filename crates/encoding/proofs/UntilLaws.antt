@@ -1,9 +1,9 @@
 -- The first 0x00 or 0xFF of some bytes, by the byte in front.
-use Rattle.std.specs.Prelude.{ℕ, zero, suc, ◌+◌, ◌≤◌, ◌≡◌, Bool, true, false, not, cond, List, [], ◌∷◌, drop}
-use mathlib.Core.Path.{ap, refl, ◌∙◌}
+use Rattle.std.specs.Prelude.{ℕ, zero, suc, ◌+◌, ◌≤◌, ◌≡◌, Bool, true, not, cond, List, [], ◌∷◌, drop}
+use mathlib.Core.Path.{ap, refl}
 use native.Mathlib.Omega.{arith}
 use Rattle.lists.specs.Helpers.{either, until_either}
-use Rattle.lists.proofs.Tests.{split, clash}
+use Rattle.lists.proofs.Tests.{split}
 use Rattle.lists.proofs.FindLaws.{until-next}
 
 module _ (b c : ℕ) where

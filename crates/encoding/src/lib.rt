@@ -1,7 +1,7 @@
 // The canonical form of a value: made from the value, or from a stored one in its place.
 #![tactic(auto)]
 
-ghost use Rattle.std.specs.Prelude.{◌≡◌, [], ◌∷◌, ◌+◌, ◌≤◌, length, take, drop, true};
+ghost use Rattle.std.specs.Prelude.{◌≡◌, [], ◌∷◌, ◌+◌, ◌≤◌, length, take, true};
 ghost use Rattle.lists.specs.Pasted.{pasted, written_in};
 ghost use Rattle.lists.specs.Helpers.{until_either};
 ghost use Rattle.values.specs.Value.{spelled, escaped, mark, run_bytes, encode, written_of};
@@ -202,17 +202,6 @@ pub fn encode(value: &[u8], buffer: &mut [u8]) -> Option<usize>
     Some(n)
 }
 
-// Moves the n bytes at `from` to an offset that is not after it; most stay where they are.
-fn move_piece(area: &mut [u8], from: usize, to: usize, n: usize)
-    requires { (to ≤ from) × (from + n ≤ length area.old) }
-    ensures { area.new ≡ pasted area.old to (take n (drop from area.old)) }
-{
-    if to == from {
-        return;
-    }
-    lists::move_bytes(area, from, to, n);
-}
-
 // Writes the canonical form of the value stored from `from` up to `to` at `at`, and answers the offset after it.
 // A run of n times b is open: at most 127, so that a longer one is written as it is read.
 // It counts offsets: the bytes left to read cannot be lent as a slice while the area that they stand in is written.
@@ -246,7 +235,7 @@ fn recode_to(area: &mut [u8], from: usize, to: usize, at: usize) -> usize
         } else {
             let k = plain_len(&area[i..to], NEAR);
             o += put_run(&mut area[o..], b, n);
-            move_piece(area, i, o, k);
+            lists::move_bytes(area, i, o, k);
             o += k;
             i += k;
             b = 0;

@@ -7,7 +7,7 @@ use lib.ListN.{length}
 use borrow.Rule.Slice.PartMut.{mid_len}
 use Rattle.lists.proofs.PastedLaws.{length-pasted}
 use Rattle.values.proofs.WrittenLaws.{tail-put}
-use Rattle.encoding.proofs.RecodeLaws.{recodable-told}
+use Rattle.encoding.proofs.RecodeLaws.{recodable-told, piece-moved}
 use Rattle.encoding.proofs.RecodeTurns.{recoding-none, recoding-same, flush-fits, two_in, same_turn, full-room, full-turn, other-turn, some_bytes, piece-in, move-fits, piece-turn, recoding-place, recoding-all}
 use borrow.Author.Rules.{rules}
 use Rattle.encoding.proofs.recode_to.Goals as goal
@@ -53,13 +53,6 @@ loop-i-preserved-else-n-k-le127 c =
 pub slice_bounds-plain_len-end : goal.slice_bounds-plain_len-end
 slice_bounds-plain_len-end c = let s = c.loop-i.invariant in omega (arith, recoding-same s, s.inside)
 
-pub move_piece-requires : goal.move_piece-requires
-move_piece-requires c =
-    let l = c.loop-i in
-    let p = c.put_run-o-else-area-i in
-    move-fits l.invariant (search rules) c.if-area-i.false c.plain_len-k.ensures (ap (λ (n : ℕ). l.o + n) p.ensures.value)
-    (tail-put l.area l.o _ p.new.buffer (flush-fits l.invariant) p.ensures.buffer_after)
-
 pub overflow_add-o-else-area-i-2 : goal.overflow_add-o-else-area-i-2
 overflow_add-o-else-area-i-2 c =
     let l = c.loop-i in
@@ -90,8 +83,12 @@ pub loop-i-preserved : goal.loop-i-preserved
 loop-i-preserved c =
     let l = c.loop-i in
     let p = c.put_run-o-else-area-i in
-    piece-turn l.invariant (search rules) c.if-area-i.false c.plain_len-k.ensures (ap (λ (n : ℕ). l.o + n) p.ensures.value)
-    (tail-put l.area l.o _ p.new.buffer (flush-fits l.invariant) p.ensures.buffer_after) c.move_piece.ensures
+    let b = c.if-area-i.false in
+    let q = c.plain_len-k.ensures in
+    let v = ap (λ (n : ℕ). l.o + n) p.ensures.value in
+    let w = tail-put l.area l.o _ p.new.buffer (flush-fits l.invariant) p.ensures.buffer_after in
+    let m = move-fits l.invariant (search rules) b q v w in
+    piece-turn l.invariant (search rules) b q v w (c.move_bytes.ensures ∙ piece-moved _ l.i _ c.plain_len-k.result m.0 m.1)
 
 pub slice_bounds-put_run-count-2 : goal.slice_bounds-put_run-count-2
 slice_bounds-put_run-count-2 c = omega (arith, flush-fits c.loop-i.invariant)
