@@ -98,7 +98,8 @@ fn seek(image: &[u8], signature: u8, name: &[u8], only: bool) -> Result<Matched,
     }
 }
 
-// The first partition in image order that has this signature and a name that matches this one.
+// The first partition in image order that has this signature and a name that matches this one; the two come apart here and in the
+// functions below, as callers give them.
 pub fn find(image: &[u8], signature: u8, name: &[u8]) -> Result<Partition, Error>
     ensures { result ≡ find_of image.now signature name.now }
 {
