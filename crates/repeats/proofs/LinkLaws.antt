@@ -1,11 +1,11 @@
 -- Laws of the links and the starts of a table's entries, as lists.
-use Rattle.std.proofs.Common.{◌≡◌, ℕ, zero, suc, ◌+◌, ◌-◌, ◌≤◌, ◌*◌, ◌<◌, List, [], ◌∷◌, ◌++◌, length, length-append, get_or, set, replicate, Option, None, Some, SomeIff, MatchOption, refl, sym, ap, subst, ◌∙◌, arith}
+use Rattle.std.proofs.Common.{◌≡◌, ℕ, zero, suc, ◌+◌, ◌-◌, ◌≤◌, ◌*◌, ◌<◌, List, map, [], ◌∷◌, ◌++◌, length, length-append, get_or, set, replicate, Option, None, Some, SomeIff, MatchOption, refl, sym, ap, subst, ◌∙◌, arith}
 use lib.ListN.{replicate-append-replicate}
-use Rattle.std.proofs.lemmas.List.{set-append_left, set-append_right, get_or-append_right, get_or_append_left}
+use Rattle.std.proofs.lemmas.List.{length-map, set-append_left, set-append_right, get_or-append_right, get_or_append_left}
 use Rattle.repeats.specs.declared.Entry.{Entry}
 use Rattle.repeats.specs.declared.Link.{Link}
 use Rattle.repeats.specs.declared.Link.TheVariants.{Root, Child}
-use Rattle.repeats.specs.Helpers.Table.{children_of, places_of, link_place, InTable}
+use Rattle.repeats.specs.Helpers.Table.{children_of, link_place, InTable}
 
 -- the entry that is read past the last
 abbrev pub blank : Entry
@@ -14,30 +14,6 @@ blank = record { far = 0; children = [] }
 -- the entries of a new table
 abbrev pub new : Entry
 new = record { far = 0; children = 0 ∷ 0 ∷ [] }
-
--- an entry's start
-pub length-starts : (from : ℕ) (es : List Entry) → length (places_of from es) ≡ length es
-unfolding places_of
-length-starts from [] = refl
-length-starts from (e ∷ es) = ap suc (length-starts from es)
-
-pub start-at : (from : ℕ) (es : List Entry) (i : ℕ) → i < length es → get_or (places_of from es) i 0 ≡ from + (get_or es i blank).far
-unfolding places_of
-start-at from [] i h = absurd (omega arith)
-start-at from (e ∷ es) zero h = refl
-start-at from (e ∷ es) (suc i) h = start-at from es i (omega arith)
-
-pub starts-set : (from : ℕ) (es : List Entry) (i : ℕ) (e : Entry) → places_of from (set es i e) ≡ set (places_of from es) i (from + e.far)
-unfolding places_of
-starts-set from [] i e = refl
-starts-set from (d ∷ es) zero e = refl
-starts-set from (d ∷ es) (suc i) e = ap (λ l. (from + d.far) ∷ l) (starts-set from es i e)
-
-pub starts-kept : (from : ℕ) (es : List Entry) (i : ℕ) (e : Entry) → i < length es → e.far ≡ (get_or es i blank).far → places_of from (set es i e) ≡ places_of from es
-unfolding places_of
-starts-kept from [] i e h q = refl
-starts-kept from (d ∷ es) zero e h q = ap (λ n. (from + n) ∷ places_of from es) q
-starts-kept from (d ∷ es) (suc i) e h q = ap (λ l. (from + d.far) ∷ l) (starts-kept from es i e (omega arith) q)
 
 -- an entry's links
 pub length-children : (es : List Entry) → length (children_of es) ≡ 2 * length es
@@ -151,6 +127,10 @@ below-link {x} None q h = q ∙ none x h
     none (suc x) h = absurd (h (omega arith))
 below-link (Some i) q h = omega (arith, h.0, h.1)
 
--- a table has as many trees as entries
-pub as-many : (from : ℕ) (roots : List ℕ) (es : List Entry) → length (roots ++ children_of es) ≡ 3 * length (places_of from es) → length roots ≡ length (places_of from es)
-as-many from roots es e = omega (arith, length-append roots (children_of es), length-children es, length-starts from es, e)
+-- a table has as many starts as entries, and as many trees
+pub starts-many : (from : ℕ) (es : List Entry) → length (map (λ (e : Entry). from + e.far) es) ≡ length es
+starts-many from es = length-map es (λ (e : Entry). from + e.far)
+
+pub trees-many : (from : ℕ) (roots : List ℕ) (es : List Entry) → length (roots ++ children_of es) ≡ 3 * length (map (λ (e : Entry). from + e.far) es)
+    → length roots ≡ length (map (λ (e : Entry). from + e.far) es)
+trees-many from roots es e = omega (arith, length-append roots (children_of es), length-children es, starts-many from es, e)

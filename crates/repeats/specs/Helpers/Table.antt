@@ -1,5 +1,5 @@
 -- The table of a block of pieces, for the contracts of the private functions: digital trees of entries, by the bits of the names' hashes.
-use Rattle.std.specs.Prelude.{ℕ, suc, ◌+◌, ◌*◌, ◌/◌, ◌%◌, ◌<◌, ◌≤◌, ◌≡◌, List, [], ◌∷◌, ◌++◌, length, get_or}
+use Rattle.std.specs.Prelude.{ℕ, suc, ◌+◌, ◌*◌, ◌/◌, ◌%◌, ◌<◌, ◌≤◌, ◌≡◌, List, [], ◌∷◌, ◌++◌, length, get_or, map}
 use Rattle.repeats.specs.declared.Entry.{Entry}
 use Rattle.repeats.specs.declared.Link.{Link}
 use Rattle.repeats.specs.declared.Table.{Table}
@@ -23,18 +23,13 @@ unfoldable pub InTable : ℕ → ℕ → Link → Type 0
 InTable n k (Root tree) = tree < n
 InTable n k (Child entry side) = (entry < k) × (side < 2)
 
--- where the pieces of entries begin
-unfoldable pub places_of : ℕ → List Entry → List ℕ
-places_of from [] = []
-places_of from (e ∷ es) = (from + e.far) ∷ places_of from es
-
 -- the links of a table: first the roots of its trees, then those of its entries
 abbrev pub links_of : Table → List ℕ
 links_of t = t.roots.now ++ children_of t.entries.now
 
 -- where the pieces of a table begin
 abbrev pub starts_of : Table → List ℕ
-starts_of t = places_of t.from t.entries.now
+starts_of t = map (λ (e : Entry). t.from + e.far) t.entries.now
 
 -- where a link stands among the links of its table, and what stands there
 abbrev pub place : Table → Link → ℕ

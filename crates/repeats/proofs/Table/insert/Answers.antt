@@ -1,7 +1,10 @@
 -- `repeats::Table::insert` meets its contract: an entry more, and a link that leads to it.
-use Rattle.std.proofs.Common.{rules, arith, ◌≡◌, ◌+◌, ◌++◌, length, get_or, set, ◌∙◌, ap, refl, length-set}
+use Rattle.std.proofs.Common.{rules, arith, ◌+◌, ◌++◌, get_or, set, ◌∙◌, ap, refl, length-set}
 use Rattle.repeats.specs.Helpers.Table.{place}
-use Rattle.repeats.proofs.LinkLaws.{blank, in-root, in-child, root-set, child-set, starts-set, starts-kept, children-kept}
+use Rattle.std.proofs.lemmas.List.{map-set}
+use Rattle.std.proofs.Math.Seq.{map-set_same}
+use Rattle.repeats.specs.declared.Entry.{Entry}
+use Rattle.repeats.proofs.LinkLaws.{blank, in-root, in-child, root-set, child-set, children-kept}
 use Rattle.repeats.proofs.Table.insert.Goals as goal
 
 pub offset_bounds-self-tree : goal.offset_bounds-self-tree
@@ -29,7 +32,7 @@ returns-in-Root-clause-links c =
     ∙ root-set t.roots.now t.entries.now _ i (in-root _ i c.requires.0)
 
 pub returns-in-Root-clause-starts : goal.returns-in-Root-clause-starts
-returns-in-Root-clause-starts c = starts-set _ _ _ _
+returns-in-Root-clause-starts c = let t = c.args.self.now in map-set (λ (e : Entry). t.from + e.far) _ _ _
 
 pub returns-in-Child-clause-links : goal.returns-in-Child-clause-links
 returns-in-Child-clause-links c =
@@ -43,7 +46,5 @@ returns-in-Child-clause-links c =
 pub returns-in-Child-clause-starts : goal.returns-in-Child-clause-starts
 returns-in-Child-clause-starts c =
     let t = c.args.self.now in
-    let es = set t.entries.now t.count (record { far = c.args.far; children = (get_or t.entries.now t.count blank).children }) in
-    let h = (in-child _ c.in-Child.is c.requires.0).0 in
-    let e : length es ≡ length t.entries.now = length-set t.entries.now t.count _ in
-    starts-kept t.from es c.in-Child.entry c.put.new.self (omega (arith, e, h)) c.put.ensures.far ∙ starts-set _ _ _ _
+    map-set_same (λ (e : Entry). t.from + e.far) _ c.in-Child.entry c.put.new.self blank (ap (λ n. t.from + n) c.put.ensures.far)
+    ∙ map-set (λ (e : Entry). t.from + e.far) _ _ _

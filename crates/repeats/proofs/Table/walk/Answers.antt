@@ -1,31 +1,33 @@
 -- `repeats::Table::walk` meets its contract. The invariant: the entries of that name are all ahead in the walk.
 use Rattle.std.proofs.Common.{arith, rules, ◌≡◌, ◌+◌, ◌<◌, length, get_or, suc, ℕ, ap, sym, ◌∙◌}
+use Rattle.std.proofs.lemmas.List.{get_or-map}
 use Rattle.repeats.specs.declared.Link.{Link}
 use Rattle.repeats.specs.declared.Table.{Table}
+use Rattle.repeats.specs.declared.Entry.{Entry}
 use Rattle.repeats.specs.Pieces.{piece_name}
 use Rattle.repeats.specs.Helpers.Names.{hash_of}
 use Rattle.repeats.specs.Helpers.Table.{InTable, link_place, place, above, starts_of, root_of, way_of, HasTrees}
 use Rattle.repeats.proofs.NameLaws.{piece-while, names-same, names-differ}
-use Rattle.repeats.proofs.LinkLaws.{blank, length-starts, start-at, as-many}
+use Rattle.repeats.proofs.LinkLaws.{blank, starts-many, trees-many}
 use Rattle.repeats.proofs.TableLaws.{scaled, root-low, walk_none, walk-next, walk-hit, walk-end}
 use Rattle.repeats.proofs.Table.walk.Goals as goal
 
 -- a table has as many trees as entries
 trees : (t : Table) → HasTrees t → length t.roots.now ≡ length (starts_of t)
-trees t h = as-many t.from t.roots.now t.entries.now h.long
+trees t h = trees-many t.from t.roots.now t.entries.now h.long
 
 entries : (t : Table) → length t.entries.now ≡ length (starts_of t)
-entries t = sym (length-starts t.from t.entries.now)
+entries t = sym (starts-many t.from t.entries.now)
 
 -- the entry that a link leads to
 module _ (t : Table) (h : HasTrees t) (link : Link) {entry : ℕ} (at : above t link ≡ suc entry) where
   inside : (entry < length t.entries.now) × (length t.entries.now < 65536)
   inside =
-      let e = length-starts t.from t.entries.now in
+      let e = starts-many t.from t.entries.now in
       (omega (arith, e, h.below (place t link) entry at, h.room), omega (arith, e, h.small))
 
   begins : get_or (starts_of t) entry 0 ≡ t.from + (get_or t.entries.now entry blank).far
-  begins = start-at t.from t.entries.now entry inside.0
+  begins = get_or-map (λ (e : Entry). t.from + e.far) t.entries.now entry blank 0 inside.0
 
   within : t.from + (get_or t.entries.now entry blank).far < length t.pairs.now
   within = omega (arith, begins, h.inside entry (h.below (place t link) entry at))
