@@ -13,6 +13,7 @@ ghost use Rattle.edits.specs.Helpers.{tail_shifted, replace_reply, replace_area}
 use errors::Error;
 
 // Moves the bytes from `rest` up to `used` to `to`, and zeroes the area after them.
+// `rest` and `used` travel on to `replace` alone: a struct of them would be longer than what it saves.
 fn shift_tail(area: &mut [u8], rest: usize, to: usize, used: usize)
     requires { (rest ≤ used) × (used ≤ length area.old) × (to + (used - rest) ≤ length area.old) }
     ensures { area.new ≡ tail_shifted area.old rest to used }

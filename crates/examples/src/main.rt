@@ -99,16 +99,11 @@ fn set_first(rt: &impl Print, image: &mut [u8], value: &[u8], n: usize) -> io::R
 fn read_back(rt: &impl Print, image: &[u8], value: &mut [u8]) -> io::Result<()> {
     match nvram::read(image, b"a", value) {
         Ok(n) => {
-            let count = leading(value, 85);
+            let count = value.iter().take_while(|x| **x == 85).count();
             println!(rt; "{n} bytes read back, {count} of them as set")
         }
         Err(e) => write_refused(rt, e),
     }
-}
-
-// How many bytes at a slice's start are b.
-fn leading(s: &[u8], b: u8) -> usize {
-    s.iter().take_while(|x| **x == b).count()
 }
 
 // Writes a refusal.

@@ -29,7 +29,7 @@ impl Blocks {
     fn of_bytes(high: u8, low: u8) -> Self
         ensures { result.0 ≡ high * 256 + low }
     {
-        Blocks(u32::from(high) * 256 + u32::from(low))
+        Blocks(u32::from(u16::from_be_bytes([high, low])))
     }
 
     // Whether a header can hold the length: its two bytes, and no length of zero.

@@ -22,7 +22,7 @@ fn has_name(image: &[u8], at: usize, name: &[u8]) -> bool
     partition_name::matches_name(&image[start..end], name)
 }
 
-// The partitions that have matched so far.
+// The partitions that have matched so far. Not yet a Result: a header that is broken further on goes before a second match.
 #[derive(Clone, Copy)]
 enum Matched {
     None,
@@ -67,12 +67,10 @@ impl Matched {
     }
 }
 
-// A search for this signature and a name that matches this one, for the first partition or for the only one: what matches.
-// A closure for whether one more match counts would say no more than the flag `only`. Inlined, since each caller's walk is then
-// compiled for its flag; a count of very many partitions takes a third more otherwise.
-#[inline(always)]
-fn seek(image: &[u8], signature: u8, name: &[u8], only: bool) -> Result<Matched, Error>
-    ensures { searched_found result ≡ seek_of only image.now signature name.now }
+// A search for this signature and a name that matches this one: what matches, for the first partition or, where ONLY, for the only
+// one. Each of the two is compiled by itself, so that a search for the first has no test for a second.
+fn seek<const ONLY: bool>(image: &[u8], signature: u8, name: &[u8]) -> Result<Matched, Error>
+    ensures { searched_found result ≡ seek_of ONLY image.now signature name.now }
 {
     if !partitions::allowed_length(image.len()) {
         return Err(Error::ImageLength);
@@ -86,7 +84,7 @@ fn seek(image: &[u8], signature: u8, name: &[u8], only: bool) -> Result<Matched,
                 let p = step.here;
                 cursor = step.next;
                 if Header::signature_at(image, p.offset) == signature
-                    && matched.counts_one_more(only)
+                    && matched.counts_one_more(ONLY)
                     && has_name(image, p.offset, name)
                 {
                     matched = matched.with(p);
@@ -103,14 +101,15 @@ fn seek(image: &[u8], signature: u8, name: &[u8], only: bool) -> Result<Matched,
 pub fn find(image: &[u8], signature: u8, name: &[u8]) -> Result<Partition, Error>
     ensures { result ≡ find_of image.now signature name.now }
 {
-    seek(image, signature, name, false)?.found()
+    seek::<false>(image, signature, name)?.found()
 }
 
-// The only partition that has this signature and a name that matches this one; where a second one has, it is refused there.
+// The only partition that has this signature and a name that matches this one; where a second one has, it is refused there. It has a
+// contract of its own, as `find` has, over the one search.
 pub fn find_only(image: &[u8], signature: u8, name: &[u8]) -> Result<Partition, Error>
     ensures { result ≡ only_of image.now signature name.now }
 {
-    seek(image, signature, name, true)?.found()
+    seek::<true>(image, signature, name)?.found()
 }
 
 // The data area of the partition that `find` answers, as a part of the image.

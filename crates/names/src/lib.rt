@@ -23,7 +23,7 @@ impl From<NameFault> for Error {
     }
 }
 
-// A mark for each byte: 1 where a name may hold it.
+// A mark for each byte: 1 where a name may hold it. The law `tabulated` is about these numbers.
 static MARKS: [u8; 256] = [
     0, // 0x00
     0, 0, 0, 0, 0, 0, 0, 0, 0, 0, 0, 0, 0, 0, 0, 0, 0, 0, 0, 0, 0, 0, 0, 0, 0, 0, 0, 0, 0, 0, 0, 0,

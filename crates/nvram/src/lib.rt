@@ -26,7 +26,7 @@ pub use lookup::area;
 // The signature of the partition that holds the variables.
 const SIGNATURE: u8 = 0x70;
 
-// Where the variable area stands in an image. A range would have to be cloned, since its start is used after it.
+// Where the variable area stands in an image. A `Range` is moved by the slice that it picks, and the start is needed after that.
 #[derive(Clone, Copy)]
 struct Span {
     start: usize,

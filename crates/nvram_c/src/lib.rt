@@ -1,5 +1,6 @@
 // The C boundary: each function returns the code, 0 where the call is done, and stores its outputs.
-// All but the listing store an offset; the other outputs are 0 with every code from 1 up. C has no Result: hence the numbers.
+// All but the listing store an offset; the other outputs are 0 with every code from 1 up. C has no Result and
+// no generic function: hence the numbers, and functions of the same shape.
 #![tactic(auto)]
 
 ghost use Rattle.std.specs.Prelude.{◌≡◌};

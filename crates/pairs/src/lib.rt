@@ -68,7 +68,7 @@ fn scan_value(area: &[u8], from: usize) -> Result<usize, Error>
     ensures { result ≡ end_of AreaFault.Escape (length area.now) from from (scan_value false 0 (drop from area.now)) }
 {
     let mut i = from;
-    // A turn takes the plain bytes, which the search passes over, and one escape of two bytes: no iterator steps so.
+    // It answers offsets: over a slice that is taken off the front, each answer would be a difference of two lengths.
     loop {
         i = lists::find_either(area, i, 0x00, 0xFF);
         if area.len() <= i {

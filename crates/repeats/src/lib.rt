@@ -180,7 +180,7 @@ impl<'a> Table<'a> {
         ensures pairs { self.new.pairs ≡ self.old.pairs }
     {
         let mut at = self.from;
-        // A step is a piece, whose end a search finds: no iterator of the library goes so.
+        // A step is a piece. `successors` would need a closure that asks for what `next_start` asks, and is no shorter.
         while at < best && self.count < self.entries.len() {
             let Ok(far) = u32::try_from(at - self.from) else {
                 break;
@@ -201,7 +201,7 @@ impl<'a> Table<'a> {
         ensures { Turn self.now.pairs.now self.now.from mid result }
     {
         let mut at = mid;
-        // A step is a piece here too.
+        // A step is a piece here too, and the walk that ends it borrows the table.
         while at < best {
             if self.walk(at).is_none() {
                 return at;

@@ -92,8 +92,8 @@ pub fn decoded_len(stored: &[u8], room: usize) -> Option<usize>
     Some(n)
 }
 
-// Writes what a few bytes stand for at the start of the buffer: its length, and whether an escape's 0xFF ends the bytes; after: one
-// stands before them.
+// Writes what a few bytes stand for at the start of the buffer: its length, and whether an escape's 0xFF ends the bytes, as few_len
+// answers them; after: one stands before them.
 fn decode_few(bytes: &[u8], after: bool, buffer: &mut [u8]) -> (usize, bool)
     requires { length (decode_from after bytes.now) ≤ length buffer.old }
     ensures len { result.0 ≡ length (decode_from after bytes.now) }
@@ -119,7 +119,7 @@ fn decode_few(bytes: &[u8], after: bool, buffer: &mut [u8]) -> (usize, bool)
 }
 
 // Writes the value that is stored so at the start of the buffer, which has room for it.
-// It walks as decoded_len does: a trait over which both walk would be longer than the lines that are the same.
+// It walks as decoded_len does, which stops where the room ends: one walk over a trait would ask this one for a room that it does not need.
 fn decode_to(stored: &[u8], buffer: &mut [u8])
     requires { length (decode stored.now) ≤ length buffer.old }
     ensures { buffer.new ≡ pasted buffer.old 0 (decode stored.now) }
