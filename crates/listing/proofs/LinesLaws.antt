@@ -9,8 +9,8 @@ use Rattle.lists.proofs.Tests.{clash}
 use Rattle.errors.specs.declared.Error.{Error}
 use Rattle.partitions.specs.declared.Partition.{Partition}
 use Rattle.partitions.specs.declared.Step.{Step}
-use Rattle.partitions.specs.Walk.{step_at, Walk, covered, broken, first}
-use Rattle.partitions.specs.Find.{check_of}
+use Rattle.partitions.specs.Walk.{step_at, Walk, covered, broken, first, walk}
+use Rattle.partitions.specs.Find.{checked_by, check_of}
 use Rattle.partitions.proofs.WalkLaws.{rest, rest-next, rest_end, rest-broken, on_walk, loop-next, loop-end, loop-broken}
 use Rattle.partitions.proofs.LoopLaws.{Goes, next-goes, check-broken, accepted-rest, covered-rest}
 use Rattle.std.specs.Prelude.{Ok, Err, Some, None}
@@ -26,6 +26,15 @@ goes-within image at s h g = line-within image s.here (omega (arith, g.here, g.p
 pub measure-refused : (image : List ℕ) (e : Error) → check_of image ≡ Err e → Err e ≡ measured_of image
 unfolding measured_of measured_by
 measure-refused image e q = ap (measured_by image) (sym (check-broken image e q))
+
+-- an accepted image breaks no rule
+accepted-measured {ℓ} : {A : Type ℓ} (image : List ℕ) (n : ℕ) → check_of image ≡ Ok n → (x : Error) → Err x ≡ measured_of image → A
+unfolding check_of checked_by measured_of measured_by
+accepted-measured {A = A} image n q x e = go (walk image) q e
+  where
+    go : (w : Walk) → checked_by w ≡ Ok n → Err x ≡ measured_by image w → A
+    go (covered ps) r f = clash (cc)
+    go (broken y) r f = clash (cc)
 
 -- what the partitions that are left add to bytes and blocks
 unfoldable pub added : List ℕ → ℕ → ℕ → List Partition → Measured
@@ -81,8 +90,10 @@ module _ (image : List ℕ) (at bytes blocks : ℕ) (k : Measuring image at byte
       let b : blocks ≡ blocks + 0 = omega arith in
       (λ i. Ok (record { bytes = a i; blocks = b i })) ∙ loop-end image at (added image bytes blocks) Err _ k.rests e
 
-  pub measure-broken : (x : Error) → step_at image at ≡ Err x → Err x ≡ measured_of image
-  measure-broken x e = loop-broken image at (added image bytes blocks) Err _ k.rests x e
+  -- no header of an accepted image is broken
+  pub measure-unbroken {ℓ} : {A : Type ℓ} (n : ℕ) → check_of image ≡ Ok n → (x : Error) → step_at image at ≡ Err x → A
+  measure-unbroken n q x e =
+      accepted-measured image n q x (loop-broken image at (added image bytes blocks) Err _ k.rests x e)
 
 -- the lines before the offset cur are written; those of the partitions that are left are to come
 pub record WritingLines (image : List ℕ) (u : Writer) (cur : ℕ) (v : Writer) : Type 0 where

@@ -83,19 +83,12 @@ fn measure(image: &[u8]) -> Result<Lines, Error>
     let mut cursor = Cursor::start();
     let mut bytes: usize = 0;
     let mut blocks: usize = 0;
-    // The form of a walk that the paper names.
-    loop {
-        match cursor.step(image) {
-            Ok(Some(step)) => {
-                let p = step.here;
-                cursor = step.next;
-                bytes += line_len(image, p);
-                blocks += p.blocks.0 as usize;
-            }
-            Ok(None) => break Ok(Lines { bytes, blocks }),
-            Err(e) => break Err(e),
-        }
+    while let Ok(Some(step)) = cursor.step(image) {
+        cursor = step.next;
+        bytes += line_len(image, step.here);
+        blocks += step.here.blocks.0 as usize;
     }
+    Ok(Lines { bytes, blocks })
 }
 
 // A text that is being written into a lent buffer, up to the offset `at`.
@@ -105,6 +98,7 @@ struct Writer<'a> {
     at: usize,
 }
 
+// Not by the library's `write!`, which stops half way where there is no room: here nothing is written then.
 impl Writer<'_> {
     // Writes a byte.
     fn put_byte(&mut self, b: u8)

@@ -3,12 +3,12 @@ use Prim.Native.Nat.{◌≤◌}
 use mathlib.Core.Path.{◌≡◌, ap, sym, subst, ◌∙◌}
 use native.Mathlib.Omega.{arith}
 use lib.ListN.{length}
-use Rattle.std.specs.Prelude.{Ok, Some}
+use Rattle.std.specs.Prelude.{Ok, Some, None}
 use Rattle.std.proofs.lemmas.Result.{err_from_is_err_and}
 use Rattle.partitions.specs.declared.Cursor.{Cursor}
 use Rattle.partitions.specs.Walk.{step_at}
 use Rattle.partitions.proofs.LoopLaws.{Goes, next-goes}
-use Rattle.listing.proofs.LinesLaws.{goes-within, Measuring, measure-refused, measure-start, measure-next, measure-end, measure-broken}
+use Rattle.listing.proofs.LinesLaws.{goes-within, Measuring, measure-refused, measure-start, measure-next, measure-end, measure-unbroken}
 use Rattle.listing.proofs.measure.Goals as goal
 use Rattle.listing.proofs.measure.Goals.{In-Ok-Some}
 
@@ -54,14 +54,17 @@ loop-step-preserved c =
     measure-next c.args.image.now l.cursor.at l.bytes l.blocks l.invariant c.requires c.in-Ok-Some.step
     (on (goal.at.loop-step-preserved c).In-Ok-Some) c.line_len-bytes.result c.line_len-bytes.ensures
 
-pub returns-in-Ok-None : goal.returns-in-Ok-None
-returns-in-Ok-None c =
+-- the walk has ended
+pub returns-in_default : goal.returns-in_default
+returns-in_default c =
     let l = c.loop-step in
-    let g = c.in-Ok-None in
-    measure-end c.args.image.now l.cursor.at l.bytes l.blocks l.invariant (sym c.step.ensures ∙ g.is ∙ ap Ok g.field-0-is)
+    let e : c.in_default.field-0 ≡ None = cc in
+    measure-end c.args.image.now l.cursor.at l.bytes l.blocks l.invariant (sym c.step.ensures ∙ c.in_default.is ∙ ap Ok e)
 
-pub returns-in-Err : goal.returns-in-Err
-returns-in-Err c =
+-- no header is broken
+pub returns-in_default-2 : goal.returns-in_default-2
+returns-in_default-2 c =
+    let image = c.args.image.now in
     let l = c.loop-step in
-    let g = c.in-Err in
-    measure-broken c.args.image.now l.cursor.at l.bytes l.blocks l.invariant g.e (sym c.step.ensures ∙ g.is)
+    measure-unbroken image l.cursor.at l.bytes l.blocks l.invariant c.in_ok-check.field-0 (sym c.check.ensures ∙ c.in_ok-check.was)
+    c.in_default.field-0 (sym c.step.ensures ∙ c.in_default.is)
