@@ -98,7 +98,7 @@ struct Writer<'a> {
     at: usize,
 }
 
-// Not by the library's `write!`, which stops half way where there is no room: here nothing is written then.
+// Not by `write!`: each method states the bytes that it writes in the words of the rules of a listing.
 impl Writer<'_> {
     // Writes a byte.
     fn put_byte(&mut self, b: u8)
