@@ -34,6 +34,7 @@ pub fn run_byte(c: u8) -> u8
 }
 
 // The longest plain piece that stored bytes begin with, and the rest; none is looked for after an escape's 0xFF or in few bytes.
+// Bytes and `after` go together through three functions: a struct of the two would be made and taken apart in each.
 fn split_plain(stored: &[u8], after: bool) -> (&[u8], &[u8])
     ensures rest_left { length stored.now ≡ length result.0.now + length result.1.now }
     ensures plain { decode_from after stored.now ≡ result.0.now ++ decode_from after result.1.now }
