@@ -3,7 +3,7 @@ use Rattle.std.specs.Prelude.{ℕ, ◌≡◌, refl, true, false, List, [], ◌�
 use Rattle.lists.specs.Bytes.{same_bytes, stands}
 use Rattle.lists.specs.Pasted.{pasted}
 use Rattle.header.specs.Checksum.{sum_from, sumcheck}
-use Rattle.header.specs.Header.{header_at, name_at, fits_header, validity_of, validity_at}
+use Rattle.header.specs.Header.{header_at, name_at, fits_header, new_header, validity_of, validity_at}
 use Rattle.errors.specs.declared.HeaderFault.TheVariants.{ZeroLength, PastEnd}
 use Rattle.errors.specs.declared.Error.TheVariants.{ImageLength, BadHeader}
 use Rattle.partition_name.specs.Name.{same_name, padded, matches_name}
@@ -155,8 +155,12 @@ wrong-names = record {
 pub record Limits : Type 0 where
   pub image : allowed_length 1_048_576 ≡ true
   pub image-over : allowed_length 1_048_592 ≡ false
-  pub header : fits_header (record { 0 = 65_535 }) ≡ true
-  pub header-over : fits_header (record { 0 = 65_536 }) ≡ false
+  pub length : fits_header (record { 0 = 65_535 }) ≡ true
+  pub length-over : fits_header (record { 0 = 65_536 }) ≡ false
+  pub header : new_header 0x70 (record { 0 = 65_535 }) (replicate 12 0x00)
+      ≡ Ok (record { signature = 0x70; checksum = 0x70; length = record { 0 = 65_535 }; name = replicate 12 0x00 })
+  pub header-over : new_header 0x70 (record { 0 = 65_536 }) (replicate 12 0x00)
+      ≡ Err (record { signature = 0x70; checksum = 0x70; length = record { 0 = 65_536 }; name = replicate 12 0x00 })
   pub name : name_check (replicate 31 0x61) ≡ good
   pub name-over : name_check (replicate 32 0x61) ≡ wrong 31
   pub stored-name : stand_at (replicate 31 0x61 ++ 0x3D ∷ 0x00 ∷ []) ≡ pair (replicate 31 0x61) [] []
@@ -166,10 +170,12 @@ pub record Limits : Type 0 where
 
 -- they hold, by computing
 pub limits : Limits
-unfolding allowed_length fits_header name_check name_check_from name_byte stand_at stored_name scan_name scan_value
+unfolding allowed_length fits_header new_header sum_from name_check name_check_from name_byte stand_at stored_name scan_name scan_value
 limits = record {
   image = refl;
   image-over = refl;
+  length = refl;
+  length-over = refl;
   header = refl;
   header-over = refl;
   name = refl;

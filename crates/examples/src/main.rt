@@ -42,7 +42,8 @@ fn blank_image() -> [u8; 1048576]
 
 // Writes the header of a partition of this signature, with the name `common` and so many blocks, at an offset where there is room.
 fn put_header(image: &mut [u8], at: usize, signature: u8, blocks: u32) {
-    let header = Header::new(signature, Blocks(blocks), *b"common\0\0\0\0\0\0");
+    let made = Header::new(signature, Blocks(blocks), *b"common\0\0\0\0\0\0");
+    let (Ok(header) | Err(header)) = made; // also where no header can hold the length
     let [_, _, high, low] = blocks.to_be_bytes();
     let start = [header.signature, header.checksum, high, low];
     let Some(rest) = image.get_mut(at..) else {

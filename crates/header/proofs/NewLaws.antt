@@ -1,18 +1,20 @@
 -- A header that is made: allowed exactly for the lengths that a header can hold, read back from its 16 bytes, and sound where it fits.
 use Prim.Native.Nat.{ℕ, ◌+◌, ◌*◌, ◌/◌, ◌%◌, ◌≤◌, ◌<◌}
-use mathlib.Core.Path.{◌≡◌, ap, sym, ◌∙◌}
+use mathlib.Core.Path.{◌≡◌, ap, refl, sym, ◌∙◌}
 use mathlib.Core.Logic.{◌↔◌}
-use mathlib.Core.Bool.{true}
+use mathlib.Core.Bool.{Bool, true, false, cond}
 use mathlib.Core.List.{List, ◌∷◌}
 use native.Mathlib.Omega.{arith}
 use lib.ListN.{length as len, take, drop, length-take, length-drop}
 use lib.Dec.{leb}
 use borrow.Author.Tests.{leb-true, le-leb}
 use Rattle.lists.specs.Bytes.{AllBytes}
-use Rattle.lists.proofs.Tests.{and-true}
+use Rattle.std.specs.Prelude.{Result, Ok, Err}
+use Rattle.lists.proofs.Tests.{clash, and-true}
 use Rattle.header.specs.declared.Blocks.{Blocks}
+use Rattle.header.specs.declared.Header.{Header}
 use Rattle.header.specs.Checksum.{sum, sumcheck, closed_form}
-use Rattle.header.specs.Header.{byte_at, name_at, header_at, header_bytes, sealed, fits_header}
+use Rattle.header.specs.Header.{byte_at, name_at, header_at, header_bytes, sealed, fits_header, new_header}
 use Rattle.header.specs.Rules.{blocks_at, checksum_at, Sound}
 use Rattle.header.proofs.SumLaws.{header-bytes}
 use Rattle.header.proofs.ChecksumLaws.{closed-form}
@@ -87,3 +89,37 @@ module _ (signature : ℕ) (blocks : Blocks) (name : List ℕ) where
               fields.sum_is ∙ closed-form over all
               ∙ sym (λ i. closed_form (sum (fields.signed i ∷ fields.high i ∷ fields.low i ∷ fields.named i)));
         }
+
+-- what an answer of `Header::new` says: its length is one that a header can hold, and the header is the sealed one
+ok-fits : (fits : Bool) (h k : Header) → ◌≡◌ {A = Result Header Header} (cond fits (Ok h) (Err h)) (Ok k) → (fits ≡ true) × (k ≡ h)
+ok-fits true h k e = (refl, cc (e))
+ok-fits false h k e = clash (cc (e))
+
+-- the same of what `Header::new` answers
+module _ (signature : ℕ) (blocks : Blocks) (name : List ℕ) where
+  -- OK exactly for a length from 1 to 65,535
+  pub new-exactly : (new_header signature blocks name ≡ Ok (sealed signature blocks name)) ↔ ((1 ≤ blocks.0) × (blocks.0 ≤ 65535))
+  unfolding new_header
+  new-exactly = (
+    λ e. (allowed-exactly signature blocks name).0 (ok-fits (fits_header blocks) (sealed signature blocks name) (sealed signature blocks name) e).0,
+    λ h. rw ((allowed-exactly signature blocks name).1 h),
+  )
+
+  module _ (h : Header) (made : new_header signature blocks name ≡ Ok h) where
+    pub new-sealed : (fits_header blocks ≡ true) × (h ≡ sealed signature blocks name)
+    unfolding new_header
+    new-sealed = ok-fits (fits_header blocks) (sealed signature blocks name) h made
+
+    -- the 16 bytes of the header that it answers stand at an offset of an image
+    module _ (twelve : len name ≡ 12) (image : List ℕ) (at : ℕ) (stands : take 16 (drop at image) ≡ header_bytes h) where
+      stands-sealed : take 16 (drop at image) ≡ header_bytes (sealed signature blocks name)
+      stands-sealed = stands ∙ ap header_bytes new-sealed.1
+
+      pub made-read : header_at image at ≡ h
+      made-read = new-read signature blocks name new-sealed.0 twelve image at stands-sealed ∙ sym new-sealed.1
+
+      pub made-fields : ((header_at image at).signature ≡ signature) × ((header_at image at).length ≡ blocks) × ((header_at image at).name ≡ name)
+      made-fields = new-fields signature blocks name new-sealed.0 twelve image at stands-sealed
+
+      pub made-sound : signature < 256 → AllBytes name → at + blocks.0 * 16 ≤ len image → Sound image at
+      made-sound byte bytes fits = new-sound signature blocks name new-sealed.0 twelve image at stands-sealed byte bytes fits

@@ -57,6 +57,10 @@ sealed signature blocks name =
 unfoldable pub fits_header : Blocks → Bool
 fits_header blocks = leb 1 blocks.0 && leb blocks.0 65535
 
+-- that header, Ok where a header can hold its length, and Err with the same header where none can
+unfoldable pub new_header : ℕ → Blocks → List ℕ → Result Header Header
+new_header signature blocks name = cond (fits_header blocks) (Ok (sealed signature blocks name)) (Err (sealed signature blocks name))
+
 -- what the rules say of a header: nothing, or the first rule that it breaks
 abbrev pub Validity : Type 0
 Validity = Result ⊤ Error

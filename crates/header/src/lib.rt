@@ -4,7 +4,7 @@
 ghost use Rattle.std.specs.Prelude.{◌≡◌, ℕ, ◌+◌, ◌*◌, ◌/◌, ◌%◌, ◌≤◌, ◌<◌, length as len, take, drop, get_or, sum, MatchOption};
 ghost use Rattle.lists.specs.Bytes.{AllBytes};
 ghost use Rattle.header.specs.Checksum.{sumcheck, fold};
-ghost use Rattle.header.specs.Header.{bytes_of, byte_at, header_at, covered_bytes, fits_header, sealed, first_broken, validity_of, validity_at, validity_answer};
+ghost use Rattle.header.specs.Header.{bytes_of, byte_at, header_at, covered_bytes, fits_header, new_header, first_broken, validity_of, validity_at, validity_answer};
 
 use errors::{Answer, Error, HeaderFault};
 use std::array;
@@ -60,9 +60,10 @@ impl Header {
     // The greatest length in blocks.
     pub const MAX_LENGTH: u32 = 65535;
 
-    // The header of these fields, with the checksum that is right for them.
-    pub fn new(signature: u8, length: Blocks, name: [u8; 12]) -> Self
-        ensures { result ≡ sealed signature length name }
+    // The header of these fields, with the checksum that is right for them: an error where no header can hold the length, with the
+    // header all the same.
+    pub fn new(signature: u8, length: Blocks, name: [u8; 12]) -> Result<Self, Self>
+        ensures { result ≡ new_header signature length name }
     {
         let blank = Header {
             signature,
@@ -70,9 +71,14 @@ impl Header {
             length,
             name,
         };
-        Header {
+        let header = Header {
             checksum: blank.computed_checksum(),
             ..blank
+        };
+        if length.fits_header() {
+            Ok(header)
+        } else {
+            Err(header)
         }
     }
 
