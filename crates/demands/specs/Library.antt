@@ -1,8 +1,8 @@
 -- What the library answers to a request, and to a list of calls.
 use Rattle.std.specs.Prelude.{ℕ, List, [], ◌∷◌, Result}
 use Rattle.errors.specs.declared.Error.{Error}
-use Rattle.partitions.specs.Find.{Found, check_of, index_of, find_of, area_of}
-use Rattle.partitions.specs.Views.{check_answer, find_answer}
+use Rattle.partitions.specs.Find.{Found, check_of, index_of, find_of}
+use Rattle.partitions.specs.Views.{check_answer, find_answer, area_answer}
 use Rattle.variables.specs.Calls.{Call}
 use Rattle.nvram.specs.Calls.{Told, ImageOutcome, call_image}
 use Rattle.demands.specs.Requests.{Request, variable, check, partition, find, area, Seen}
@@ -56,13 +56,13 @@ seen_find f I =
 abbrev pub seen_area : Found → List ℕ → Seen
 seen_area f I =
     record {
-      code = (find_answer f).code;
-      offset = (find_answer f).offset;
+      code = (area_answer I f).code;
+      offset = (area_answer I f).offset;
       amount = 0;
       header = 0;
       blocks = 0;
       signature = 0;
-      part = area_of I f;
+      part = (area_answer I f).value;
       buffer = [];
       image = I;
     }

@@ -1,11 +1,13 @@
 // A partition by its signature and name, and its data area.
 #![tactic(auto)]
 
-ghost use Rattle.std.specs.Prelude.{◌≡◌, ◌+◌, ◌≤◌, length as len};
+ghost use Rattle.std.specs.Prelude.{◌≡◌, [], ◌+◌, ◌≤◌, length as len};
 ghost use Rattle.header.specs.Header.{header_at};
 ghost use Rattle.partition_name.specs.Name.{matches_name};
 ghost use Rattle.std.specs.Result.{result_map_both};
+ghost use Rattle.errors.specs.Answer.{answer_of};
 ghost use Rattle.partitions.specs.Find.{find_of, only_of, area_found};
+ghost use Rattle.partitions.specs.Views.{area_answer};
 ghost use Rattle.lookup.specs.Helpers.{one_more_counts, with_match, matched_found, searched_found, seek_of};
 
 use errors::Error;
@@ -114,7 +116,8 @@ pub fn find_only(image: &[u8], signature: u8, name: &[u8]) -> Result<Partition, 
 
 // The data area of the partition that `find` answers, as a part of the image.
 pub fn area<'a>(image: &'a [u8], signature: u8, name: &[u8]) -> Result<&'a [u8], Error>
-    ensures { result_map_both (λ part. part.now) (λ e. e) result ≡ area_found image.now (find_of image.now signature name.now) }
+    ensures found { result_map_both (λ part. part.now) (λ e. e) result ≡ area_found image.now (find_of image.now signature name.now) }
+    ensures shown { answer_of [] (result_map_both (λ part. part.now) (λ e. e) result) ≡ area_answer image.now (find_of image.now signature name.now) }
 {
     let p = find(image, signature, name)?;
     let bytes = p.blocks.bytes();

@@ -11,13 +11,15 @@ use Rattle.lists.specs.Pasted.{pasted}
 use Rattle.lists.proofs.Tests.{clash}
 use Rattle.header.specs.declared.Bytes.{Bytes}
 use Rattle.errors.specs.declared.Error.{Error}
+use Rattle.errors.specs.Answer.{answer_of}
 use Rattle.header.specs.Header.{header_at, bytes_of, validity_at}
 use Rattle.header.proofs.ValidityLaws.{valid-nonzero, valid-fits}
 use Rattle.partitions.specs.declared.Partition.{Partition}
 use Rattle.partitions.specs.Walk.{Stepped, partition_of, past_of, step_at, Walk, covered, broken, first, on_step, walk_from, allowed_length, walk}
 use Rattle.std.specs.Prelude.{Ok, Err, Some, None}
-use Rattle.partitions.specs.Find.{Found, first_match, find_by, find_of, area_of}
+use Rattle.partitions.specs.Find.{Found, first_match, find_by, find_of, area_of, area_found}
 use Rattle.partitions.specs.Cover.{partition_at, area_at}
+use Rattle.partitions.specs.Views.{area_answer}
 use Rattle.partitions.proofs.WalkLaws.{View, ends, goes, breaks, view}
 use Rattle.partitions.proofs.FoundLaws.{Match, found, missing, match}
 
@@ -155,6 +157,12 @@ module _ (image : List ℕ) (p : Partition) (i : Inside image p) where
 pub area-refused : (image : List ℕ) (e : Error) → area_of image (Err e) ≡ []
 unfolding area_of
 area-refused image e = refl
+
+-- what a caller sees of a data area: the code and the offset of the partition that is sought, and the area's bytes
+pub area-shown : (image : List ℕ) (found : Found) → answer_of [] (area_found image found) ≡ area_answer image found
+unfolding area_of
+area-shown image (Ok p) = refl
+area-shown image (Err e) = refl
 
 -- the area by the rules is that of the partition at the offset
 pub area-at : (image : List ℕ) (at : ℕ) → area_at image at ≡ area_of image (Ok (partition_at image at))

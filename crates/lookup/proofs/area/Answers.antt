@@ -2,10 +2,14 @@
 use Prim.Native.Nat.{◌+◌, ◌≤◌}
 use mathlib.Core.Path.{◌≡◌, ap, sym, ◌∙◌}
 use native.Mathlib.Omega.{arith}
+use mathlib.Core.List.{[]}
 use lib.ListN.{length}
 use Rattle.std.specs.Prelude.{Ok}
-use Rattle.partitions.specs.Find.{find_of}
-use Rattle.partitions.proofs.AreaLaws.{found_part, found-area}
+use Rattle.errors.specs.Answer.{answer_of}
+use Rattle.errors.proofs.Passed.{passed-on}
+use Rattle.std.specs.Result.{result_map_both}
+use Rattle.partitions.specs.Find.{Found, find_of, area_found}
+use Rattle.partitions.proofs.AreaLaws.{found_part, found-area, area-shown}
 use Rattle.lookup.proofs.area.Goals as goal
 use Rattle.lookup.proofs.area.Goals.{After-bytes-bytes}
 
@@ -32,5 +36,13 @@ pub returns : goal.returns
 returns c =
     let a = c.args in
     let e : find_of a.image.now a.signature a.name.now ≡ Ok c.in_ok-p.p = sym c.find.ensures ∙ c.in_ok-p.was in
-    ap Ok (found-area a.image.now a.signature a.name.now c.find.result c.find.ensures c.in_ok-p.p c.in_ok-p.was c.bytes-bytes.result c.bytes-bytes.ensures)
-    ∙ rw e
+    let f = ap Ok (found-area a.image.now a.signature a.name.now c.find.result c.find.ensures c.in_ok-p.p c.in_ok-p.was c.bytes-bytes.result c.bytes-bytes.ensures)
+    ∙ rw e in
+    record { found = f; shown = ap (answer_of []) f ∙ area-shown a.image.now (find_of a.image.now a.signature a.name.now) }
+
+pub returns-in_err-p-clause-shown : goal.returns-in_err-p-clause-shown
+returns-in_err-p-clause-shown c =
+    let a = c.args in
+    let sought = find_of a.image.now a.signature a.name.now in
+    ap (λ (r : _). answer_of [] (result_map_both (λ part. part.now) (λ e. e) r)) (passed-on c.from_residual.result _ c.from_residual.ensures.1)
+    ∙ ap (λ (f : Found). answer_of [] (area_found a.image.now f)) (sym c.in_err-p.was ∙ c.find.ensures) ∙ area-shown a.image.now sought
