@@ -32,7 +32,7 @@ fn put_pair(part: &mut [u8], name: &[u8], value: &[u8])
     let equals = name.len();
     let start = equals + 1;
     let end = part.len() - 1;
-    part[..equals].copy_from_slice(name);
+    lists::copy(name, &mut part[..equals]);
     part[equals] = b'=';
     encoding::encode(value, &mut part[start..end]);
     part[end] = 0;

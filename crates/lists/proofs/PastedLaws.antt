@@ -134,6 +134,12 @@ copied d w n e =
     (λ t. let h = leb-false (length d) (length w) t in take_all n w (omega arith) ∙ sym (take_all (length d) w (omega arith))) in
     ap (λ (k : ℕ). take n w ++ drop k d) (sym m) ∙ sym (pasted-first d (take n w)) ∙ ap (pasted d 0) same
 
+-- bytes over a slice that is just as long
+pub copied-whole : (d w : List ℕ) → length d ≡ length w → pasted d 0 (take (length d) w) ≡ w
+copied-whole d w e =
+    sym (copied d w (length d) (omega arith)) ∙ ap (λ (l : List ℕ). l ++ drop (length d) d) (take_all (length d) w (omega arith))
+    ∙ ap (λ (l : List ℕ). w ++ l) (drop_of_length-le d (omega arith)) ∙ append-nil w
+
 -- w copied to the start of a lent part `&mut d[a..e]`
 pub part-copied : (d : List ℕ) (a e : ℕ) (w last : List ℕ) → a ≤ e → e ≤ length d → length w ≤ e - a
     → last ≡ pasted (mid_of a (e - a) d) 0 (take (length (mid_of a (e - a) d)) w) → put_mid a (e - a) d last ≡ pasted d a w
