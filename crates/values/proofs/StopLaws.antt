@@ -1,11 +1,27 @@
--- The laws of `next_stop`.
+-- The laws of `first_stop` and `next_stop`.
 use Prim.Native.Nat.{ℕ, ◌+◌, ◌-◌, ◌≤◌, ◌<◌}
-use mathlib.Core.Path.{◌≡◌}
+use mathlib.Core.Path.{◌≡◌, sym, ◌∙◌}
+use mathlib.Core.Logic.{◌⊎◌, inl, inr}
 use native.Mathlib.Omega.{arith}
 use lib.Dec.{ltb}
 use borrow.Author.Tests.{lt-ltb, le-ltb, ltb-true, ltb-false}
 use Rattle.lists.proofs.Tests.{split}
-use Rattle.values.specs.Helpers.{next_stop}
+use Rattle.values.specs.Helpers.{first_stop, next_stop}
+
+pub first-few : (len : ℕ) → len < 16 → len ≡ first_stop len
+unfolding first_stop
+first-few len h = rw (lt-ltb len 16 h)
+
+pub first-many : (len : ℕ) → 16 ≤ len → 0 ≡ first_stop len
+unfolding first_stop
+first-many len h = rw (le-ltb len 16 h)
+
+-- it is not past the end
+pub first-inside : (len : ℕ) {r : ℕ} → r ≡ first_stop len → r ≤ len
+first-inside len e =
+    split (ltb len 16)
+    (λ t. omega (arith, first-few len (ltb-true len 16 t)))
+    (λ t. omega (arith, first-many len (ltb-false len 16 t)))
 
 module _ (from len : ℕ) where
   pub next-few : len - from < 128 → len ≡ next_stop from len
@@ -15,6 +31,19 @@ module _ (from len : ℕ) where
   pub next-many : 128 ≤ len - from → from + 128 ≡ next_stop from len
   unfolding next_stop
   next-many h = rw (le-ltb (len - from) 128 h)
+
+  -- it is not past the end
+  pub next-inside : {r : ℕ} → r ≡ next_stop from len → r ≤ len
+  next-inside e =
+      split (ltb (len - from) 128)
+      (λ t. omega (arith, next-few (ltb-true (len - from) 128 t)))
+      (λ t. omega (arith, next-many (ltb-false (len - from) 128 t), ltb-false (len - from) 128 t))
+
+  pub next-cases : {r : ℕ} → r ≡ next_stop from len → (r ≡ len) ⊎ (r ≡ from + 128)
+  next-cases e =
+      split (ltb (len - from) 128)
+      (λ t. inl (e ∙ sym (next-few (ltb-true (len - from) 128 t))))
+      (λ t. inr (e ∙ sym (next-many (ltb-false (len - from) 128 t))))
 
 -- some of the bytes that are left, and no more than 128
 pub record Few (len r : ℕ) : Type 0 where

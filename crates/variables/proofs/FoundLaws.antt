@@ -152,6 +152,13 @@ placed-missing name at (p ∷ ps) h = split (same_bytes name p.name)
     (λ t. let f : Some (placed at p.name p.stored) ≡ None = rw t at h in clash cc)
     (λ t. rw (t, lookup) (placed-missing name (at + length p.name + length p.stored + 2) ps (rw t at h)))
 
+missing-placed : (name : List ℕ) (at : ℕ) (ps : List Pair) → lookup name ps ≡ missing → place_in name at ps ≡ None
+unfolding place_in lookup
+missing-placed name at [] h = refl
+missing-placed name at (p ∷ ps) h = split (same_bytes name p.name)
+    (λ t. let f : found (decode p.stored) ≡ missing = rw (t, lookup) at h in clash cc)
+    (λ t. rw t (missing-placed name (at + length p.name + length p.stored + 2) ps (rw (t, lookup) at h)))
+
 module _ (area name : List ℕ) (ps : List Pair) (e : parse area ≡ parsed ps) where
   pub find-found : (p : Place) → find_at area name ≡ Some p → FoundAt name ps p
   find-found p h =
@@ -169,6 +176,9 @@ module _ (area name : List ℕ) (ps : List Pair) (e : parse area ≡ parsed ps) 
 
   pub find-missing : find_at area name ≡ None → lookup name ps ≡ missing
   find-missing h = placed-missing name 0 ps (sym (find-parsed area name ps e) ∙ h)
+
+  pub missing-find : lookup name ps ≡ missing → find_at area name ≡ None
+  missing-find h = find-parsed area name ps e ∙ missing-placed name 0 ps h
 
 -- ---- what the edits and the lookup make of a list that is split so
 
