@@ -105,6 +105,11 @@ module _ (signature : ℕ) (blocks : Blocks) (name : List ℕ) where
     λ h. rw ((allowed-exactly signature blocks name).1 h),
   )
 
+  -- for any other length it is refused, with the same header
+  pub new-refused : fits_header blocks ≡ false → new_header signature blocks name ≡ Err (sealed signature blocks name)
+  unfolding new_header
+  new-refused e = rw e
+
   module _ (h : Header) (made : new_header signature blocks name ≡ Ok h) where
     pub new-sealed : (fits_header blocks ≡ true) × (h ≡ sealed signature blocks name)
     unfolding new_header

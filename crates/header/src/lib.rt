@@ -60,8 +60,8 @@ impl Header {
     // The greatest length in blocks.
     pub const MAX_LENGTH: u32 = 65535;
 
-    // The header of these fields, with the checksum that is right for them: an error where no header can hold the length, with the
-    // header all the same.
+    // The header of these fields, with the checksum that is right for them: an error where no header can hold the length, with
+    // the header all the same.
     pub fn new(signature: u8, length: Blocks, name: [u8; 12]) -> Result<Self, Self>
         ensures { result ≡ new_header signature length name }
     {
@@ -171,7 +171,7 @@ fn first_broken(
 ) -> Result<(), Error>
     ensures { result ≡ first_broken blocks stored computed at room }
 {
-    // Compared before the other tests, since the compiler then adds the covered bytes as a vector.
+    // Compared before the other tests, since the compiler then adds covered bytes as a vector.
     let differs = stored != computed;
     if blocks.0 == 0 {
         let fault = HeaderFault::ZeroLength;

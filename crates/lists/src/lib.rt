@@ -6,8 +6,8 @@ ghost use Rattle.lists.specs.Pasted.{pasted};
 ghost use Rattle.lists.specs.Helpers.{moved_bytes};
 ghost use Rattle.lists.specs.Helpers.{either, until_either};
 
-// Copies bytes to the start of `to`, as many as both slices have. Not by `copy_from_slice`, which calls memmove: the archive for C
-// asks its user for memset alone.
+// Copies bytes to the start of `to`, as many as both slices have. Not by `copy_from_slice`, which calls memmove: the archive for
+// C asks its user for memset alone.
 pub fn copy(from: &[u8], to: &mut [u8])
     ensures { to.new ≡ pasted to.old 0 (take (length to.old) from.now) }
 {
