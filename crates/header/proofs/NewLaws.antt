@@ -14,7 +14,7 @@ use Rattle.lists.proofs.Tests.{clash, and-true}
 use Rattle.header.specs.declared.Blocks.{Blocks}
 use Rattle.header.specs.declared.Header.{Header}
 use Rattle.header.specs.Checksum.{sum, sumcheck, closed_form}
-use Rattle.header.specs.Header.{byte_at, name_at, header_at, header_bytes, sealed, fits_header, new_header}
+use Rattle.header.specs.Header.{byte_at, name_at, header_at, covered_bytes, header_bytes, sealed, fits_header, new_header}
 use Rattle.header.specs.Rules.{blocks_at, checksum_at, Sound}
 use Rattle.header.proofs.SumLaws.{header-bytes}
 use Rattle.header.proofs.ChecksumLaws.{closed-form}
@@ -97,6 +97,15 @@ ok-fits false h k e = clash (cc (e))
 
 -- the same of what `Header::new` answers
 module _ (signature : ℕ) (blocks : Blocks) (name : List ℕ) where
+  -- it answers the header with the right checksum by the test of its length
+  pub new-answer : (fits : Bool) (sum : ℕ) → fits ≡ fits_header blocks
+      → sum ≡ sumcheck (covered_bytes (record { signature = signature; checksum = 0; length = blocks; name = name }))
+      → (let h : Header = record { signature = signature; checksum = sum; length = blocks; name = name } in ◌≡◌ {A = Result Header Header} (cond fits (Ok h) (Err h)) (new_header signature blocks name))
+  unfolding new_header
+  new-answer fits sum f s =
+      λ i. cond (f i) (Ok (record { signature = signature; checksum = s i; length = blocks; name = name }))
+      (Err (record { signature = signature; checksum = s i; length = blocks; name = name }))
+
   -- OK exactly for a length from 1 to 65,535
   pub new-exactly : (new_header signature blocks name ≡ Ok (sealed signature blocks name)) ↔ ((1 ≤ blocks.0) × (blocks.0 ≤ 65535))
   unfolding new_header
